@@ -1,0 +1,15 @@
+//! Messages as rows of numbers: what is said over the air before it is sealed into bytes.
+
+mod laws;
+mod message;
+mod row;
+
+pub use laws::read_then_write;
+pub use laws::write_then_read;
+pub use message::Direction;
+pub use message::Message;
+pub use message::Node;
+pub use message::Nonce;
+pub use message::Pair;
+pub use message::Refusal;
+pub use row::ROW;
