@@ -1,2 +1,3 @@
+pub mod Small
 pub mod Shapes
 pub mod RoundTrip

@@ -10,6 +10,7 @@ use lib.Dec.{eqb, ltb}
 use lib.ListN.{length, getD, take, drop}
 use lib.Seq.{drop-cons}
 use Rattle.std.proofs.shelf.Lists.{at-drop-all, getD-past}
+use Rattle.frame.proofs.Small.{and-left, and-right}
 use Rattle.frame.specs.declared.message.Direction.{Direction}
 use Rattle.frame.specs.declared.message.Direction.the-variants.{Up, Down}
 use Rattle.frame.specs.declared.message.Message.{Message}
@@ -83,14 +84,6 @@ places-are (suc n) i row e =
 whole : (n : ℕ) (row : List ℕ) → length row ≡ n → places 0 n row ≡ row
 whole n row e = places-are n 0 row (omega arith)
 
-and-left : (a b : Bool) → (a && b) ≡ true → a ≡ true
-and-left true b e = refl
-and-left false b e = e
-
-and-right : (a b : Bool) → (a && b) ≡ true → b ≡ true
-and-right true b e = e
-and-right false b e = grind arith
-
 flag-of-direction : (n : ℕ) → n < 2 → flag (directionOf n) ≡ n
 flag-of-direction zero h = refl
 flag-of-direction (suc zero) h = refl
@@ -123,3 +116,8 @@ module _ (row : List ℕ) (good : isMessage row ≡ true) where
 
   pub code-of-message : code (messageOf row) ≡ row
   code-of-message = by-kind (place row 0) refl ∙ whole (getD lengths (place row 0) 0) row long
+
+-- the numbers of a message that was read are small
+pub code-is-small : (row : List ℕ) (m : Message) → isMessage row ≡ true → m ≡ messageOf row → isSmall (code m) ≡ true
+code-is-small row m good e =
+    ap (λ (x : Message). isSmall (code x)) e ∙ ap isSmall (code-of-message row good) ∙ and-left (isSmall row) (hasShape row) good

@@ -13,7 +13,7 @@ use Rattle.frame.specs.declared.message.Message.{Message}
 use Rattle.frame.specs.declared.message.Message.the-variants.{Begin, Reply, Take, Taken, Renew, Load, All}
 use Rattle.frame.specs.declared.message.Refusal.{Refusal}
 use Rattle.frame.specs.declared.message.Refusal.the-variants.{NoMessage, NotForThisEnd, WrongTag}
-use Rattle.frame.specs.Row.{code, isMessage, messageOf}
+use Rattle.frame.specs.Row.{code, padded, isMessage, messageOf}
 use Rattle.frame.specs.Refusals.{refusalNumber}
 use Rattle.protocol.specs.Held.{HandState, GateState}
 use Rattle.protocol.specs.Rules.{Out, quiet, handHears, HandAct, SendUp, ForgetHand, handActs, gateHears, GateAct, Invite, SendDown, Broadcast, Rotate, Rekey, ForgetGate, gateActs}
@@ -127,8 +127,34 @@ handDoes g a y = cond (handMay g a) (handActs a y) (quiet y)
 unfoldable pub gateDoes : (self s : ℕ) → GateAct → GateState → Out GateState
 gateDoes g s a y = cond (gateMay s a) (gateActs g a y) (quiet y)
 
--- ---- the row of what is said or delivered, none if nothing is
+-- ---- a call as a whole: what is held afterwards, the code, and the rows said and delivered, in twelve places each
 
+-- the row of what is said or delivered, none if nothing is
 abbrev pub rowOf : List Message → List ℕ
 rowOf [] = []
 rowOf (m ∷ ms) = code m
+
+pub record Call (A : Type 0) : Type 0 where
+  pub held : A
+  pub code : ℕ
+  pub said : ℕ
+  pub delivered : ℕ
+  pub says : List ℕ
+  pub delivers : List ℕ
+
+abbrev pub callOf : {A : Type 0} → ℕ → Out A → Call A
+callOf k o =
+    record { held = o .held; code = k; said = length (rowOf (o .says)); delivered = length (rowOf (o .delivers)); says = padded 12 (rowOf (o .says)); delivers = padded 12 (rowOf (o .delivers)) }
+
+unfoldable pub handHearing : (g s : ℕ) → (row : List ℕ) → (genuine : Bool) → HandState → Call HandState
+handHearing g s row genuine y = callOf (codeOf (handVerdict g s row genuine y)) (handHearsRow g s row genuine y)
+
+unfoldable pub gateHearing : (g s : ℕ) → (row : List ℕ) → (genuine : Bool) → GateState → Call GateState
+gateHearing g s row genuine y = callOf (codeOf (gateVerdict g s row genuine y)) (gateHearsRow g s row genuine y)
+
+-- an act is never refused, and delivers nothing
+unfoldable pub handActing : (g kind gate body : ℕ) → HandState → Call HandState
+handActing g k i b y = callOf 0 (handDoes g (handActOf k i b) y)
+
+unfoldable pub gateActing : (self s kind hand body : ℕ) → GateState → Call GateState
+gateActing g s k h b y = callOf 0 (gateDoes g s (gateActOf k h b) y)

@@ -118,8 +118,11 @@ abbrev pub handAt : (d g : ℕ) → (GatePeer → Out GatePeer) → HandState �
 handAt d g rule y =
     cond (ltb g (length (y .peers))) (within (λ (x : GatePeer). withHandDraws d (withGatePeers (set (y .peers) g x) y)) (rule (gatePeer g y))) (quiet y)
 
+abbrev pub handBegins : (self gate : ℕ) → Nonce → HandState → Out HandState
+handBegins s g a y = cond (hasNext (y .draws)) (handAt (y .draws + 1) g (handBegin (pairOf g s a (nonceOf 1 s (y .draws)))) y) (quiet y)
+
 abbrev pub handHears : (self : ℕ) → Message → HandState → Out HandState
-handHears s (Begin g h a) y = cond (hasNext (y .draws)) (handAt (y .draws + 1) g (handBegin (pairOf g s a (nonceOf 1 s (y .draws)))) y) (quiet y)
+handHears s (Begin g h a) y = handBegins s g a y
 handHears s (Reply p) y = quiet y
 handHears s (Take n c p) y = handAt (y .draws) (p .gate) (handTake n c p) y
 handHears s (Taken p) y = quiet y

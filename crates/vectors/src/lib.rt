@@ -1,0 +1,4 @@
+//! Tests over many cases, in a crate of their own, since a crate with tests is proved twice.
+
+#[cfg(test)]
+mod rows;
