@@ -42,5 +42,5 @@ module _ {A : Type 0} where
   acted x o e m s out none p r =
       let nothing : listed (e .delivers) ≡ [] = ap (λ (w : Out A). w .delivers) out ∙ none in
       same-call x 0 m 0 (length (rowOf (listed (e .says)))) (length (rowOf (listed (e .delivers)))) s (replicate 12 0) (padded 12 (rowOf (listed (e .says)))) (padded 12 (rowOf (listed (e .delivers))))
-        p (ap (λ (l : List Message). length (rowOf l)) (sym nothing)) r (ap (λ (l : List Message). padded 12 (rowOf l)) (sym nothing))
+      p (ap (λ (l : List Message). length (rowOf l)) (sym nothing)) r (ap (λ (l : List Message). padded 12 (rowOf l)) (sym nothing))
       ∙ ap (λ (w : Out A). callOf 0 w) out

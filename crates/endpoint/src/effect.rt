@@ -14,18 +14,27 @@ impl Effect {
     pub fn nothing() -> Effect
         ensures { λ r. ⌜ r ≡ record { says = None; delivers = None } ⌝ }
     {
-        Effect { says: None, delivers: None }
+        Effect {
+            says: None,
+            delivers: None,
+        }
     }
 
     pub fn say(message: Message) -> Effect
         ensures { λ r. ⌜ r ≡ record { says = Some message; delivers = None } ⌝ }
     {
-        Effect { says: Some(message), delivers: None }
+        Effect {
+            says: Some(message),
+            delivers: None,
+        }
     }
 
     pub fn deliver(message: Message) -> Effect
         ensures { λ r. ⌜ r ≡ record { says = None; delivers = Some message } ⌝ }
     {
-        Effect { says: None, delivers: Some(message) }
+        Effect {
+            says: None,
+            delivers: Some(message),
+        }
     }
 }

@@ -22,7 +22,10 @@ const BODY: u64 = 1 << 49;
 pub fn same_pair(p: &Pair, q: &Pair) -> bool
     ensures { λ r. ⌜ r ≡ samePair (now (p .entry)) (now (q .entry)) ⌝ }
 {
-    p.gate == q.gate && p.hand == q.hand && same_nonce(&p.anonce, &q.anonce) && same_nonce(&p.snonce, &q.snonce)
+    p.gate == q.gate
+        && p.hand == q.hand
+        && same_nonce(&p.anonce, &q.anonce)
+        && same_nonce(&p.snonce, &q.snonce)
 }
 
 pub fn same_nonce(a: &Nonce, b: &Nonce) -> bool
@@ -32,7 +35,13 @@ pub fn same_nonce(a: &Nonce, b: &Nonce) -> bool
 }
 
 /// Hears a load under the key in use: it is delivered once, in the order of counters.
-pub fn hear_load(end: &mut Endpoint, direction: Direction, counter: u64, body: u64, pair: Pair) -> Effect
+pub fn hear_load(
+    end: &mut Endpoint,
+    direction: Direction,
+    counter: u64,
+    body: u64,
+    pair: Pair,
+) -> Effect
     requires bounded { ⌜ isBounded (now end) ≡ true ⌝ }
     requires small { ⌜ counter < 2 ^ 49 ⌝ }
     ensures out { λ r. ⌜ outOf r (now (end .exit)) ≡ endHears direction counter body pair (now (end .entry)) ⌝ }
@@ -46,7 +55,16 @@ pub fn hear_load(end: &mut Endpoint, direction: Direction, counter: u64, body: u
         _ => false,
     };
     *end = session.close();
-    if accepted { Effect::deliver(Message::Load { direction, counter, body, pair }) } else { Effect::nothing() }
+    if accepted {
+        Effect::deliver(Message::Load {
+            direction,
+            counter,
+            body,
+            pair,
+        })
+    } else {
+        Effect::nothing()
+    }
 }
 
 /// Sends a load under the key in use, if there is one, with the next counter, while there is one.
@@ -67,7 +85,12 @@ pub fn send_load(end: &mut Endpoint, direction: Direction, body: u64) -> Effect
     let next = session.next_send();
     *end = session.close();
     match next {
-        Some(counter) => Effect::say(Message::Load { direction, counter, body, pair }),
+        Some(counter) => Effect::say(Message::Load {
+            direction,
+            counter,
+            body,
+            pair,
+        }),
         None => Effect::nothing(),
     }
 }

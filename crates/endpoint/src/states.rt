@@ -11,6 +11,7 @@ use frame::Pair;
 use protocol::Endpoint;
 
 const LIMIT: u64 = 1 << 48;
+
 const HEARD: u64 = 1 << 49;
 
 impl State {
@@ -45,7 +46,12 @@ impl Session {
         ensures { λ r. ⌜ elim r [ Some s ↦ endpointOf s ≡ now (end .entry) | None ↦ isBounded (now (end .entry)) ≡ false ] ⌝ }
     {
         if end.send <= LIMIT && end.floor <= HEARD && end.round <= HEARD {
-            Some(Session { state: State::of(end.offered, end.key), send: end.send, floor: end.floor, round: end.round })
+            Some(Session {
+                state: State::of(end.offered, end.key),
+                send: end.send,
+                floor: end.floor,
+                round: end.round,
+            })
         } else {
             None
         }
@@ -56,9 +62,20 @@ impl Session {
         ensures same { λ r. ⌜ r ≡ endpointOf self ⌝ }
         ensures bounded { λ r. ⌜ isBounded r ≡ true ⌝ }
     {
-        let Session { state, send, floor, round } = self;
+        let Session {
+            state,
+            send,
+            floor,
+            round,
+        } = self;
         let (offered, key) = state.apart();
-        Endpoint { offered, key, send, floor, round }
+        Endpoint {
+            offered,
+            key,
+            send,
+            floor,
+            round,
+        }
     }
 
     pub fn offered(&self) -> Option<Pair>
@@ -87,17 +104,42 @@ impl Session {
     pub fn offer(self, offer: Offer) -> Session
         ensures { λ r. ⌜ endpointOf r ≡ withOffered (Some (offer .pair)) (endpointOf self) ⌝ }
     {
-        let Session { state, send, floor, round } = self;
+        let Session {
+            state,
+            send,
+            floor,
+            round,
+        } = self;
         match state {
-            State::Nothing => Session { state: State::Offered(offer), send, floor, round },
+            State::Nothing => Session {
+                state: State::Offered(offer),
+                send,
+                floor,
+                round,
+            },
             State::Offered(old) => {
                 old.withdraw();
-                Session { state: State::Offered(offer), send, floor, round }
+                Session {
+                    state: State::Offered(offer),
+                    send,
+                    floor,
+                    round,
+                }
             }
-            State::InUse(key) => Session { state: State::Both(offer, key), send, floor, round },
+            State::InUse(key) => Session {
+                state: State::Both(offer, key),
+                send,
+                floor,
+                round,
+            },
             State::Both(old, key) => {
                 old.withdraw();
-                Session { state: State::Both(offer, key), send, floor, round }
+                Session {
+                    state: State::Both(offer, key),
+                    send,
+                    floor,
+                    round,
+                }
             }
         }
     }
@@ -106,17 +148,42 @@ impl Session {
     pub fn withdraw(self) -> Session
         ensures { λ r. ⌜ endpointOf r ≡ withOffered None (endpointOf self) ⌝ }
     {
-        let Session { state, send, floor, round } = self;
+        let Session {
+            state,
+            send,
+            floor,
+            round,
+        } = self;
         match state {
-            State::Nothing => Session { state: State::Nothing, send, floor, round },
+            State::Nothing => Session {
+                state: State::Nothing,
+                send,
+                floor,
+                round,
+            },
             State::Offered(offer) => {
                 offer.withdraw();
-                Session { state: State::Nothing, send, floor, round }
+                Session {
+                    state: State::Nothing,
+                    send,
+                    floor,
+                    round,
+                }
             }
-            State::InUse(key) => Session { state: State::InUse(key), send, floor, round },
+            State::InUse(key) => Session {
+                state: State::InUse(key),
+                send,
+                floor,
+                round,
+            },
             State::Both(offer, key) => {
                 offer.withdraw();
-                Session { state: State::InUse(key), send, floor, round }
+                Session {
+                    state: State::InUse(key),
+                    send,
+                    floor,
+                    round,
+                }
             }
         }
     }
@@ -125,12 +192,37 @@ impl Session {
     pub fn install(self) -> Session
         ensures { λ r. ⌜ endpointOf r ≡ installs (endpointOf self .offered) (endpointOf self) ⌝ }
     {
-        let Session { state, send, floor, round } = self;
+        let Session {
+            state,
+            send,
+            floor,
+            round,
+        } = self;
         match state {
-            State::Nothing => Session { state: State::Nothing, send, floor, round },
-            State::Offered(offer) => Session { state: State::InUse(offer.spend()), send: 0, floor: 0, round: 0 },
-            State::InUse(key) => Session { state: State::InUse(key), send, floor, round },
-            State::Both(offer, _) => Session { state: State::InUse(offer.spend()), send: 0, floor: 0, round: 0 },
+            State::Nothing => Session {
+                state: State::Nothing,
+                send,
+                floor,
+                round,
+            },
+            State::Offered(offer) => Session {
+                state: State::InUse(offer.spend()),
+                send: 0,
+                floor: 0,
+                round: 0,
+            },
+            State::InUse(key) => Session {
+                state: State::InUse(key),
+                send,
+                floor,
+                round,
+            },
+            State::Both(offer, _) => Session {
+                state: State::InUse(offer.spend()),
+                send: 0,
+                floor: 0,
+                round: 0,
+            },
         }
     }
 }

@@ -16,7 +16,15 @@ pub trait Hand {
 
     /// Handheld `s`, where there are `g` gates, hears a row; `genuine` says whether its tag was right. `says` and
     /// `takes` get the rows said and delivered.
-    fn hear(&mut self, g: u8, s: u16, message: &[u64], genuine: bool, says: &mut [u64; ROW], takes: &mut [u64; ROW]) -> Heard
+    fn hear(
+        &mut self,
+        g: u8,
+        s: u16,
+        message: &[u64],
+        genuine: bool,
+        says: &mut [u64; ROW],
+        takes: &mut [u64; ROW],
+    ) -> Heard
         ensures { λ r. ⌜ hearingOf r (state (now (self .exit))) (now (says .exit)) (now (takes .exit)) ≡ handHearing g s (now (message .entry)) genuine (state (now (self .entry))) ⌝ };
 
     /// Handheld `s`, where there are `gates` gates, does something of itself: 0 sends `body` to gate `g`, 1 and above

@@ -25,10 +25,28 @@ pub fn step(peer: &mut GatePeer, input: Input) -> Effect
 {
     match input {
         Input::Begin { pair } => hear_begin(peer, pair),
-        Input::Take { group, counter, pair } => hear_take(peer, group, counter, pair),
-        Input::Renew { round, group, counter, pair } => hear_renew(peer, round, group, counter, pair),
-        Input::Load { counter, body, pair } => hear_load(peer, counter, body, pair),
-        Input::All { gate, group, counter, body } => hear_all(peer, gate, group, counter, body),
+        Input::Take {
+            group,
+            counter,
+            pair,
+        } => hear_take(peer, group, counter, pair),
+        Input::Renew {
+            round,
+            group,
+            counter,
+            pair,
+        } => hear_renew(peer, round, group, counter, pair),
+        Input::Load {
+            counter,
+            body,
+            pair,
+        } => hear_load(peer, counter, body, pair),
+        Input::All {
+            gate,
+            group,
+            counter,
+            body,
+        } => hear_all(peer, gate, group, counter, body),
         Input::Send { body } => send_load(peer, body),
     }
 }
@@ -126,7 +144,12 @@ fn hear_all(peer: &mut GatePeer, gate: u64, group: u64, counter: u64, body: u64)
     match peer.end.key {
         Some(_) if group > 0 && group == peer.group && peer.floor <= counter => {
             peer.floor = counter + 1;
-            Effect::deliver(Message::All { gate, group, counter, body })
+            Effect::deliver(Message::All {
+                gate,
+                group,
+                counter,
+                body,
+            })
         }
         _ => Effect::nothing(),
     }

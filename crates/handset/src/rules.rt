@@ -21,13 +21,27 @@ use protocol::GatePeer;
 /// Nobody draws more nonces.
 const LIMIT: u64 = 1 << 48;
 
-const NEW: GatePeer = GatePeer { end: Endpoint { offered: None, key: None, send: 0, floor: 0, round: 0 }, group: 0, floor: 0 };
+const NEW: GatePeer = GatePeer {
+    end: Endpoint {
+        offered: None,
+        key: None,
+        send: 0,
+        floor: 0,
+        round: 0,
+    },
+    group: 0,
+    floor: 0,
+};
 
 impl Handset {
     pub fn new(gates: u8) -> Handset
         ensures { λ h. ⌜ stateOf h ≡ newHand gates ⌝ }
     {
-        Handset { draws: 0, many: gates, peers: [NEW; 255] }
+        Handset {
+            draws: 0,
+            many: gates,
+            peers: [NEW; 255],
+        }
     }
 
     /// What happens at one gate, if there is such a gate; so many nonces are drawn then.
@@ -50,8 +64,23 @@ impl Handset {
         if index >= LIMIT {
             return Effect::nothing();
         }
-        let snonce = Nonce { kind: 1, node: s, index };
-        self.at(index + 1, gate, Input::Begin { pair: Pair { gate, hand: s, anonce, snonce } })
+        let snonce = Nonce {
+            kind: 1,
+            node: s,
+            index,
+        };
+        self.at(
+            index + 1,
+            gate,
+            Input::Begin {
+                pair: Pair {
+                    gate,
+                    hand: s,
+                    anonce,
+                    snonce,
+                },
+            },
+        )
     }
 
     /// Sends a body to a gate.
@@ -69,19 +98,76 @@ impl Handset {
     {
         let draws = self.draws;
         match message {
-            Message::Begin { gate, hand: _, anonce } => self.begin(s, gate, anonce),
+            Message::Begin {
+                gate,
+                hand: _,
+                anonce,
+            } => self.begin(s, gate, anonce),
             Message::Reply { .. } => Effect::nothing(),
-            Message::Take { group, counter, pair } => self.at(draws, pair.gate, Input::Take { group, counter, pair }),
+            Message::Take {
+                group,
+                counter,
+                pair,
+            } => self.at(
+                draws,
+                pair.gate,
+                Input::Take {
+                    group,
+                    counter,
+                    pair,
+                },
+            ),
             Message::Taken { .. } => Effect::nothing(),
-            Message::Renew { round, group, counter, pair } => {
-                self.at(draws, pair.gate, Input::Renew { round, group, counter, pair })
+            Message::Renew {
+                round,
+                group,
+                counter,
+                pair,
+            } => {
+                self.at(
+                    draws,
+                    pair.gate,
+                    Input::Renew {
+                        round,
+                        group,
+                        counter,
+                        pair,
+                    },
+                )
             }
-            Message::Load { direction, counter, body, pair } => match direction {
+            Message::Load {
+                direction,
+                counter,
+                body,
+                pair,
+            } => match direction {
                 Direction::Up => Effect::nothing(),
-                Direction::Down => self.at(draws, pair.gate, Input::Load { counter, body, pair }),
+                Direction::Down => self.at(
+                    draws,
+                    pair.gate,
+                    Input::Load {
+                        counter,
+                        body,
+                        pair,
+                    },
+                ),
             },
-            Message::All { gate, group, counter, body } => {
-                self.at(draws, gate, Input::All { gate, group, counter, body })
+            Message::All {
+                gate,
+                group,
+                counter,
+                body,
+            } => {
+                self.at(
+                    draws,
+                    gate,
+                    Input::All {
+                        gate,
+                        group,
+                        counter,
+                        body,
+                    },
+                )
             }
         }
     }

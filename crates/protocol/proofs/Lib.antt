@@ -1,2 +1,2 @@
 pub mod Verdicts
-pub mod Acts
+pub mod Quiet

@@ -16,7 +16,11 @@ use Rattle.frame.specs.declared.message.Refusal.the-variants.{NoMessage, NotFor
 use Rattle.frame.specs.Row.{code, padded, isMessage, messageOf}
 use Rattle.frame.specs.Refusals.{refusalNumber}
 use Rattle.protocol.specs.Held.{HandState, GateState}
-use Rattle.protocol.specs.Rules.{Out, quiet, handHears, HandAct, SendUp, ForgetHand, handActs, gateHears, GateAct, Invite, SendDown, Broadcast, Rotate, Rekey, ForgetGate, gateActs}
+use Rattle.protocol.specs.declared.acts.HandAct.{HandAct}
+use Rattle.protocol.specs.declared.acts.HandAct.the-variants.{SendUp, ForgetHand}
+use Rattle.protocol.specs.declared.acts.GateAct.{GateAct}
+use Rattle.protocol.specs.declared.acts.GateAct.the-variants.{Invite, SendDown, Broadcast, Rotate, Rekey, ForgetGate}
+use Rattle.protocol.specs.Rules.{Out, quiet, handHears, handActs, gateHears, gateActs}
 
 -- ---- whom a message is for
 

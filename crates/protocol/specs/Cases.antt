@@ -15,7 +15,9 @@ use Rattle.frame.specs.declared.message.Message.{Message}
 use Rattle.frame.specs.declared.message.Message.the-variants.{Begin, Reply, Take, Taken, Renew, Load, All}
 use Rattle.frame.specs.Row.{code, pairRow}
 use Rattle.protocol.specs.Held.{nonceOf, pairOf, withSend, withRound, installed, newGatePeer, withGateEnd, newHandPeer, withHandEnd}
-use Rattle.protocol.specs.Rules.{limit, gatePeer, SendUp, ForgetHand, handPeer, Invite, SendDown, Broadcast, Rotate, Rekey, ForgetGate}
+use Rattle.protocol.specs.declared.acts.HandAct.the-variants.{SendUp, ForgetHand}
+use Rattle.protocol.specs.declared.acts.GateAct.the-variants.{Invite, SendDown, Broadcast, Rotate, Rekey, ForgetGate}
+use Rattle.protocol.specs.Rules.{limit, gatePeer, handPeer}
 use Rattle.protocol.specs.World.{Entry, World, start, gate, hand, sameRow, Event, GateActs, HandActs, Hears, after}
 
 pub record Case : Type 0 where

@@ -20,7 +20,9 @@ use Rattle.frame.specs.Row.{code}
 use Rattle.protocol.specs.declared.held.Endpoint.{Endpoint}
 use Rattle.protocol.specs.declared.held.Handshake.{Handshake}
 use Rattle.protocol.specs.Held.{nonceOf, pairOf, isThis}
-use Rattle.protocol.specs.Rules.{limit, isBody, gatePeer, SendUp, handPeer, Invite, SendDown, Broadcast}
+use Rattle.protocol.specs.declared.acts.HandAct.the-variants.{SendUp}
+use Rattle.protocol.specs.declared.acts.GateAct.the-variants.{Invite, SendDown, Broadcast}
+use Rattle.protocol.specs.Rules.{limit, isBody, gatePeer, handPeer}
 use Rattle.protocol.specs.World.{Entry, World, start, gate, hand, sameRow, Event, GateActs, HandActs, Hears, after}
 
 -- ---- words

@@ -14,6 +14,10 @@ use Rattle.frame.specs.declared.message.Direction.{Direction}
 use Rattle.frame.specs.declared.message.Direction.the-variants.{Up, Down}
 use Rattle.frame.specs.declared.message.Message.{Message}
 use Rattle.frame.specs.declared.message.Message.the-variants.{Begin, Reply, Take, Taken, Renew, Load, All}
+use Rattle.protocol.specs.declared.acts.HandAct.{HandAct}
+use Rattle.protocol.specs.declared.acts.HandAct.the-variants.{SendUp, ForgetHand}
+use Rattle.protocol.specs.declared.acts.GateAct.{GateAct}
+use Rattle.protocol.specs.declared.acts.GateAct.the-variants.{Invite, SendDown, Broadcast, Rotate, Rekey, ForgetGate}
 use Rattle.protocol.specs.declared.held.Endpoint.{Endpoint}
 use Rattle.protocol.specs.declared.held.GatePeer.{GatePeer}
 use Rattle.protocol.specs.declared.held.Handshake.{Handshake}
@@ -135,10 +139,6 @@ handHears s (All g n c b) y = handAt (y .draws) g (handAll g n c b) y
 abbrev pub handForgets : HandState → Out HandState
 handForgets y = quiet (withGatePeers (replicate (length (y .peers)) newGatePeer) y)
 
-pub data HandAct : Type 0 where
-  SendUp : (gate body : ℕ) → HandAct
-  ForgetHand : HandAct
-
 abbrev pub handActs : HandAct → HandState → Out HandState
 handActs (SendUp g b) y = handAt (y .draws) g (handSend b) y
 handActs ForgetHand y = handForgets y
@@ -212,14 +212,6 @@ gateForgets y =
     withGroupKey (cond (hasNext (y .group)) (y .group + 1) (y .group)) (
     withGroupCounter (cond (hasNext (y .group)) 0 limit) (
     withHandPeers (replicate (length (y .peers)) newHandPeer) y)))
-
-pub data GateAct : Type 0 where
-  Invite : (hand : ℕ) → GateAct
-  SendDown : (hand body : ℕ) → GateAct
-  Broadcast : (body : ℕ) → GateAct
-  Rotate : GateAct
-  Rekey : (hand : ℕ) → GateAct
-  ForgetGate : GateAct
 
 abbrev pub gateActs : (self : ℕ) → GateAct → GateState → Out GateState
 gateActs g (Invite h) y = gateInvites g h y

@@ -11,7 +11,9 @@ use Rattle.frame.specs.declared.message.Message.{Message}
 use Rattle.frame.specs.declared.message.Message.the-variants.{Begin, Reply, Take, Taken, Renew, Load, All}
 use Rattle.frame.specs.Row.{code}
 use Rattle.protocol.specs.Held.{HandState, newHand, GateState, newGate}
-use Rattle.protocol.specs.Rules.{Out, HandAct, GateAct}
+use Rattle.protocol.specs.declared.acts.HandAct.{HandAct}
+use Rattle.protocol.specs.declared.acts.GateAct.{GateAct}
+use Rattle.protocol.specs.Rules.{Out}
 use Rattle.protocol.specs.Calls.{isTagged, handHearsRow, gateHearsRow, handDoes, gateDoes}
 
 -- a message, with who sent it or to whom it was delivered

@@ -4,8 +4,11 @@ ghost use Rattle.protocol.specs.Rules.{NoReplay};
 ghost use Rattle.protocol.specs.Calls.{RefusedIsQuiet};
 ghost use Rattle.protocol.specs.Cases.{CasesHold};
 
+mod acts;
 mod held;
 
+pub use acts::GateAct;
+pub use acts::HandAct;
 pub use held::Endpoint;
 pub use held::GatePeer;
 pub use held::HandPeer;

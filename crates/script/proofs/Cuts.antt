@@ -11,10 +11,10 @@ use Rattle.std.specs.shelf.Lists.{between}
 use Rattle.std.proofs.shelf.Edits.{between-none, between-more, length-between}
 use Rattle.std.proofs.shelf.Lists.{drop-more, at-drop-more, at-drop-all, take-rest}
 use Rattle.std.proofs.shelf.Ways.{tells}
-use Rattle.script.specs.Line.{startsBlank, then, wordsAfter, words}
+use Rattle.script.specs.Line.{startsBlank, wordThen, wordsAfter, words}
 
 -- a word of one byte or more
-then-some : (w : List ℕ) (ws : List (List ℕ)) → 0 < length w → then w ws ≡ w ∷ ws
+pub then-some : (w : List ℕ) (ws : List (List ℕ)) → 0 < length w → wordThen w ws ≡ w ∷ ws
 then-some [] ws h = absurd (omega arith)
 then-some (b ∷ bs) ws h = refl
 
@@ -25,7 +25,7 @@ module _ (l : List ℕ) (i : ℕ) where
       let last : eqb (length (drop (i + 1) l)) 0 ≡ eqb (i + 1) (length l) = grind (arith, tells, length-drop (i + 1) l) in
       at-drop-more startsBlank l i 0 h ∙ ap (λ (t : Bool). eqb (getD l i 0) 32 || (eqb (getD l i 0) 9 || (eqb (getD l i 0) 13 && t))) last
 
-  step : (w : List ℕ) (t : Bool) → i < length l → startsBlank (drop i l) ≡ t → wordsAfter w (drop i l) ≡ cond t (then w (words (drop (i + 1) l))) (wordsAfter (w ++ getD l i 0 ∷ []) (drop (i + 1) l))
+  step : (w : List ℕ) (t : Bool) → i < length l → startsBlank (drop i l) ≡ t → wordsAfter w (drop i l) ≡ cond t (wordThen w (words (drop (i + 1) l))) (wordsAfter (w ++ getD l i 0 ∷ []) (drop (i + 1) l))
   step w t h e =
       let here : startsBlank (getD l i 0 ∷ drop (i + 1) l) ≡ t = rw (drop-more l i 0 h) at e in
       at-drop-more (wordsAfter w) l i 0 h ∙ rw here refl
@@ -45,10 +45,10 @@ module _ (l : List ℕ) (i : ℕ) where
     ends g h at =
         let w : List ℕ = between from i l in
         let some : 0 < length w = omega (arith, length-between l from i h) in
-        let cut : wordsAfter w (drop i l) ≡ then w (words (drop i l)) =
+        let cut : wordsAfter w (drop i l) ≡ wordThen w (words (drop i l)) =
         elim at [
-          | inl past ↦ at-drop-all (wordsAfter w) l i past ∙ sym (at-drop-all (λ r. then w (words r)) l i past)
-          | inr (inside, e) ↦ step w true inside e ∙ ap (then w) (sym (step [] true inside e))
+          | inl past ↦ at-drop-all (wordsAfter w) l i past ∙ sym (at-drop-all (λ r. wordThen w (words r)) l i past)
+          | inr (inside, e) ↦ step w true inside e ∙ ap (wordThen w) (sym (step [] true inside e))
         ] in
         (sym so ∙ cut ∙ then-some w (words (drop i l)) some ∙ ap (λ r. w ∷ words r) (sym (take-rest l i)), some)
 

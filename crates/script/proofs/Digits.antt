@@ -1,15 +1,14 @@
 -- The steps of reading a number.
-use mathlib.Core.Path.{_≡_, refl, sym, _∙_, ap}
+use mathlib.Core.Path.{_≡_, sym, _∙_, ap}
 use mathlib.Core.Bool.{Bool, true, false, cond, _&&_}
-use mathlib.Core.List.{List, [], _∷_, _++_}
+use mathlib.Core.List.{List}
 use Prim.Native.Nat.{ℕ, _+_, _-_, _*_, _<_, _≤_, _^_, min}
 use native.Mathlib.Omega.{arith}
 use lib.Dec.{eqb, ltb}
 use lib.ListN.{length, getD, take, drop}
-use Rattle.std.specs.declared.option.Option.{Option}
 use Rattle.std.specs.declared.option.Option.the-variants.{Some, None}
 use Rattle.std.specs.Reads.{value}
-use Rattle.std.specs.Text.{In, asciiDigit, digitValue}
+use Rattle.std.specs.Text.{asciiDigit, digitValue}
 use Rattle.std.specs.shelf.Text.{allDigits}
 use Rattle.std.proofs.shelf.Digits.{value-more}
 use Rattle.std.proofs.shelf.Lists.{at-drop-more, at-drop-all, take-all}
@@ -22,8 +21,8 @@ pub record Sofar (w : List ℕ) (i n : ℕ) : Type 0 where
   pub digits : allDigits (drop i w) ≡ allDigits w
   pub count : n ≡ min (value 10 (take i w)) (2 ^ 64 - 1)
 
-digit-value : (b : ℕ) → 48 ≤ b → b ≤ 57 → digitValue b ≡ b - 48
-digit-value b low high = grind (arith, tells)
+digit-value : (b : ℕ) → asciiDigit b ≡ true → digitValue b ≡ b - 48
+digit-value b e = grind (arith, tells)
 
 module _ {w : List ℕ} {i n : ℕ} (so : Sofar w i n) where
   pub no-digit : i < length w → asciiDigit (getD w i 0) ≡ false → None ≡ numberOf w
@@ -31,10 +30,10 @@ module _ {w : List ℕ} {i n : ℕ} (so : Sofar w i n) where
       let none : allDigits w ≡ false = sym (so .digits) ∙ at-drop-more allDigits w i 0 h ∙ ap (λ (t : Bool). t && allDigits (drop (i + 1) w)) e in
       sym (ap (λ (t : Bool). cond t (Some (amount w)) None) (and-right (ltb 0 (length w)) (allDigits w) none))
 
-  pub one-more : i < length w → asciiDigit (getD w i 0) ≡ true → In 48 57 (getD w i 0) → (m d r : ℕ) → m ≡ min (n * 10) (2 ^ 64 - 1) → d ≡ getD w i 0 - 48 → r ≡ min (m + d) (2 ^ 64 - 1) → Sofar w (i + 1) r
-  one-more h e range m d r tens one is = record {
+  pub one-more : (m : ℕ) → i < length w → asciiDigit (getD w i 0) ≡ true → m ≡ min (n * 10 + (getD w i 0 - 48)) (2 ^ 64 - 1) → Sofar w (i + 1) m
+  one-more m h e is = record {
     digits = ap (λ (t : Bool). t && allDigits (drop (i + 1) w)) (sym e) ∙ sym (at-drop-more allDigits w i 0 h) ∙ so .digits;
-    count = omega (arith, value-more 10 w i h, digit-value (getD w i 0) (range .0) (range .1), so .count);
+    count = omega (arith, value-more 10 w i h, digit-value (getD w i 0) e, so .count);
   }
 
   pub all-read : eqb (length w) 0 ≡ false → length w ≤ i → Some n ≡ numberOf w

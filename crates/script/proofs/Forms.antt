@@ -2,12 +2,11 @@
 use mathlib.Core.Path.{_≡_, refl, sym, _∙_, ap}
 use mathlib.Core.List.{List, [], _∷_, _++_, map}
 use Prim.Native.Nat.{ℕ}
-use native.Mathlib.Omega.{arith}
 use borrow.Author.Needs.{needs}
 use lib.Chars.{codes}
-use lib.ListN.{length, getD}
+use lib.ListN.{length}
 use Rattle.std.specs.declared.result.Result.{Result}
-use Rattle.std.specs.declared.result.Result.the-variants.{Ok, Err}
+use Rattle.std.specs.declared.result.Result.the-variants.{Err}
 use Rattle.std.specs.Results.{ErrBy}
 use Rattle.std.proofs.shelf.Results.{err-from-errBy}
 use Rattle.script.specs.declared.command.Command.{Command}
@@ -18,7 +17,7 @@ use Rattle.script.specs.declared.command.Keyword.{Keyword}
 use Rattle.script.specs.declared.command.Keyword.the-variants as keyword
 use Rattle.script.specs.declared.command.Malformed.{Malformed}
 use Rattle.script.specs.declared.command.Malformed.the-variants.{NotACommand, Expected}
-use Rattle.script.specs.Line.{Part, Number, Word, parts}
+use Rattle.script.specs.Line.{Part, Number, Word}
 use Rattle.script.specs.Commands.{Answered, Begins, opening, spelling, written}
 
 -- how many numbers follow the opening
@@ -37,17 +36,30 @@ arity form.Begin = 5
 abbrev Unlike : ℕ → List Part → Type 0
 Unlike k ps = (ns : List ℕ) → length ns ≡ k → ps ≡ map Number ns → ⊥
 
+none : (ps : List Part) → Unlike 0 ps → ps ≡ [] → ⊥
+none ps never = never [] refl
+
+one : (ps : List Part) → Unlike 1 ps → (a : ℕ) → ps ≡ Number a ∷ [] → ⊥
+one ps never a = never (a ∷ []) refl
+
+two : (ps : List Part) → Unlike 2 ps → (a b : ℕ) → ps ≡ Number a ∷ Number b ∷ [] → ⊥
+two ps never a b = never (a ∷ b ∷ []) refl
+
+five : (ps : List Part) → Unlike 5 ps → (a b c d e : ℕ) → ps ≡ Number a ∷ Number b ∷ Number c ∷ Number d ∷ Number e ∷ [] → ⊥
+five ps never a b c d e = never (a ∷ b ∷ c ∷ d ∷ e ∷ []) refl
+
+-- the search goes through the commands, and tells each other one from f by its words
 no-such : (f : Form) (n : ℕ) (ps : List Part) → Unlike (arity f) ps → (c : Command) → opening f n ++ ps ≡ written c → ⊥
-no-such form.Invite n ps never c e = let one : (a : ℕ) → ps ≡ Number a ∷ [] → ⊥ = λ a. never (a ∷ []) refl in search needs
-no-such form.Send n ps never c e = let two : (a b : ℕ) → ps ≡ Number a ∷ Number b ∷ [] → ⊥ = λ a b. never (a ∷ b ∷ []) refl in search needs
-no-such form.Broadcast n ps never c e = let one : (a : ℕ) → ps ≡ Number a ∷ [] → ⊥ = λ a. never (a ∷ []) refl in search needs
-no-such form.Rotate n ps never c e = let none : ps ≡ [] → ⊥ = never [] refl in search needs
-no-such form.Rekey n ps never c e = let one : (a : ℕ) → ps ≡ Number a ∷ [] → ⊥ = λ a. never (a ∷ []) refl in search needs
-no-such form.ForgetGate n ps never c e = let none : ps ≡ [] → ⊥ = never [] refl in search needs
-no-such form.SendUp n ps never c e = let two : (a b : ℕ) → ps ≡ Number a ∷ Number b ∷ [] → ⊥ = λ a b. never (a ∷ b ∷ []) refl in search needs
-no-such form.ForgetHand n ps never c e = let none : ps ≡ [] → ⊥ = never [] refl in search needs
-no-such form.Hear n ps never c e = let two : (a b : ℕ) → ps ≡ Number a ∷ Number b ∷ [] → ⊥ = λ a b. never (a ∷ b ∷ []) refl in search needs
-no-such form.Begin n ps never c e = let five : (a b c d e : ℕ) → ps ≡ Number a ∷ Number b ∷ Number c ∷ Number d ∷ Number e ∷ [] → ⊥ = λ a b c d e. never (a ∷ b ∷ c ∷ d ∷ e ∷ []) refl in search needs
+no-such form.Invite n ps never c e = let row = one ps never in search needs
+no-such form.Send n ps never c e = let row = two ps never in search needs
+no-such form.Broadcast n ps never c e = let row = one ps never in search needs
+no-such form.Rotate n ps never c e = let row = none ps never in search needs
+no-such form.Rekey n ps never c e = let row = one ps never in search needs
+no-such form.ForgetGate n ps never c e = let row = none ps never in search needs
+no-such form.SendUp n ps never c e = let row = two ps never in search needs
+no-such form.ForgetHand n ps never c e = let row = none ps never in search needs
+no-such form.Hear n ps never c e = let row = two ps never in search needs
+no-such form.Begin n ps never c e = let row = five ps never in search needs
 
 -- every command has a form
 begins : (c : Command) → (f : Form) × Begins (written c) f
@@ -98,37 +110,9 @@ no-hand-verb n ps never =
     let forgets = never keyword.Forgets in
     search needs)
 
--- after the words ws comes a keyword, and then qs
-module _ (ws ps qs : List Part) (k : Keyword) (e : ps ≡ Word (spelling k) ∷ qs) where
-  told : (verb : Keyword) → k ≡ verb → ws ++ ps ≡ ws ++ Word (spelling verb) ∷ qs
-  told verb is = ap (λ (l : List Part). ws ++ l) (e ∙ ap (λ (v : Keyword). Word (spelling v) ∷ qs) is)
-
-  -- the numbers that make a command
-  pub commands : (verb : Keyword) → k ≡ verb → (ns ms : List ℕ) → qs ≡ map Number ns → ns ≡ ms → ws ++ ps ≡ ws ++ Word (spelling verb) ∷ map Number ms
-  commands verb is ns ms row same = told verb is ∙ ap (λ (l : List Part). ws ++ Word (spelling verb) ∷ l) (row ∙ ap (map Number) same)
-
-  -- and anything else
-  pub refuses : (f : Form) (n : ℕ) (verb : Keyword) → k ≡ verb → ws ++ Word (spelling verb) ∷ qs ≡ opening f n ++ qs → (r : Result Command Malformed) (e : Malformed) → ErrBy r (λ y. y ≡ e) → (e ≡ Expected f) × Unlike (arity f) qs → Answered (ws ++ ps) r
-  refuses f n verb is same r e by why =
-      let begun = told verb is ∙ same in
-      let p = err-from-errBy r by in
-      rw (p .1, p .2, why .0) ((λ c w. no-such f n qs (why .1) c (sym begun ∙ w)), (n, qs, begun))
-
--- a list is its elements
-pub none : (ns : List ℕ) → length ns ≡ 0 → ns ≡ []
-none [] e = refl
-none (a ∷ ns) e = absurd (omega arith)
-
-pub one : (ns : List ℕ) → length ns ≡ 1 → ns ≡ getD ns 0 0 ∷ []
-one [] e = absurd (omega arith)
-one (a ∷ ns) e = ap (λ l. a ∷ l) (none ns (omega arith))
-
-pub two : (ns : List ℕ) → length ns ≡ 2 → ns ≡ getD ns 0 0 ∷ getD ns 1 0 ∷ []
-two [] e = absurd (omega arith)
-two (a ∷ ns) e = ap (λ l. a ∷ l) (one ns (omega arith))
-
-pub five : (ns : List ℕ) → length ns ≡ 5 → ns ≡ getD ns 0 0 ∷ getD ns 1 0 ∷ getD ns 2 0 ∷ getD ns 3 0 ∷ getD ns 4 0 ∷ []
-five [] e = absurd (omega arith)
-five (a ∷ []) e = absurd (omega arith)
-five (a ∷ b ∷ []) e = absurd (omega arith)
-five (a ∷ b ∷ c ∷ ns) e = ap (λ l. a ∷ b ∷ c ∷ l) (two ns (omega arith))
+-- after the words ws come a keyword and then qs, which is not what the form goes on with
+pub refuses : (ws ps qs : List Part) (k : Keyword) → ps ≡ Word (spelling k) ∷ qs → (f : Form) (n : ℕ) (verb : Keyword) → k ≡ verb → ws ++ Word (spelling verb) ∷ qs ≡ opening f n ++ qs → (r : Result Command Malformed) (e : Malformed) → ErrBy r (λ y. y ≡ e) → (e ≡ Expected f) × Unlike (arity f) qs → Answered (ws ++ ps) r
+refuses ws ps qs k told f n verb is same r e by why =
+    let begun : ws ++ ps ≡ opening f n ++ qs = ap (λ (l : List Part). ws ++ l) (told ∙ ap (λ (v : Keyword). Word (spelling v) ∷ qs) is) ∙ same in
+    let p = err-from-errBy r by in
+    rw (p .1, p .2, why .0) ((λ c w. no-such f n qs (why .1) c (sym begun ∙ w)), (n, qs, begun))

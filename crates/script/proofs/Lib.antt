@@ -1,5 +1,6 @@
 pub mod Cuts
 pub mod Digits
-pub mod Rows
-pub mod Numbers
 pub mod Forms
+pub mod Numbers
+pub mod Reading
+pub mod Rows

@@ -1,29 +1,33 @@
 -- The steps of reading a line that is to have just so many numbers.
 use mathlib.Core.Path.{_≡_, refl, sym, _∙_, ap}
 use mathlib.Core.List.{List, [], _∷_, _++_, map}
-use Prim.Native.Nat.{ℕ, _+_, _-_, _<_, _≤_, min}
+use Prim.Native.Nat.{ℕ, zero, suc, _+_, _-_, _<_, _≤_}
 use native.Mathlib.Omega.{arith}
-use lib.ListN.{length, take, drop, set}
+use lib.ListN.{length, getD, take, drop, set}
 use Rattle.std.specs.declared.option.Option.{Option}
-use Rattle.std.specs.declared.option.Option.the-variants.{Some, None}
-use Rattle.std.proofs.shelf.Lists.{append-assoc, append-nil, drop-at, drop-map, length-drop, length-map, length-set, length-take, map-push, take-all, take-more-set}
-use Rattle.script.specs.Line.{Part, Number, Word, numberOf, partBy, parts, words}
+use Rattle.std.proofs.shelf.Lists.{append-assoc, append-nil, drop-at, drop-map, getD-at, length-drop, length-map, length-push, length-set, length-take, map-push, take-all, take-more-set}
+use Rattle.script.specs.Line.{Part, Number, numberOf, numbersFrom, partBy, parts, words}
 
-pub first-part : (line w rest : List ℕ) (o : Option ℕ) → words line ≡ w ∷ words rest → o ≡ numberOf w → parts line ≡ partBy w o ∷ parts rest
+first-part : (line w rest : List ℕ) (o : Option ℕ) → words line ≡ w ∷ words rest → o ≡ numberOf w → parts line ≡ partBy w o ∷ parts rest
 first-part line w rest o e is = ap (map (λ w. partBy w (numberOf w))) e ∙ ap (λ (p : Option ℕ). partBy w p ∷ parts rest) (sym is)
 
-pub no-part : (line : List ℕ) → words line ≡ [] → parts line ≡ []
+no-part : (line : List ℕ) → words line ≡ [] → parts line ≡ []
 no-part line e = ap (map (λ w. partBy w (numberOf w))) e
-
-pub no-number : (line w rest : List ℕ) → words line ≡ w ∷ words rest → None ≡ numberOf w → (n : ℕ) (ps : List Part) → parts line ≡ Number n ∷ ps → ⊥
-no-number line w rest e none n ps is =
-    let word = first-part line w rest None e none in
-    let z : _≡_ {A = ℕ} 0 1 = cc in
-    omega arith
 
 no-numbers : (ns : List ℕ) (ps : List Part) → 0 < length ns → ps ≡ map Number ns → ((n : ℕ) (qs : List Part) → ps ≡ Number n ∷ qs → ⊥) → ⊥
 no-numbers [] ps h is never = omega arith
 no-numbers (n ∷ ns) ps h is never = never n (map Number ns) is
+
+numbers-are : (k : ℕ) (ns front all : List ℕ) → length ns ≡ k → all ≡ front ++ ns → map Number ns ≡ numbersFrom (length front) k all
+numbers-are zero [] front all long is = refl
+numbers-are zero (n ∷ ns) front all long is = absurd (omega arith)
+numbers-are (suc k) [] front all long is = absurd (omega arith)
+numbers-are (suc k) (n ∷ ns) front all long is =
+    let here : getD all (length front) 0 ≡ n = ap (λ (l : List ℕ). getD l (length front) 0) is ∙ getD-at front n ns 0 (length front) refl in
+    let far : length (front ++ n ∷ []) ≡ suc (length front) = length-push front n ∙ omega arith in
+    let on : map Number ns ≡ numbersFrom (suc (length front)) k all =
+    numbers-are k ns (front ++ n ∷ []) all (omega arith) (is ∙ sym (append-assoc front (n ∷ []) ns)) ∙ ap (λ (i : ℕ). numbersFrom i k all) far in
+    cc
 
 -- the first i of n numbers are read into `all`, and `rest` is left
 pub record Sofar (n : ℕ) (line rest all : List ℕ) (i : ℕ) : Type 0 where
@@ -55,7 +59,7 @@ module _ {n : ℕ} {line rest all : List ℕ} {i : ℕ} (so : Sofar n line rest 
         ∙ ap (λ (l : List Part). l ++ parts after) (sym (ap (map Number) (take-more-set all i x (omega (arith, so .long))) ∙ map-push Number (take i all) x));
   }
 
-  pub all-numbers : n ≤ i → words rest ≡ [] → parts line ≡ map Number all
+  pub all-numbers : n ≤ i → words rest ≡ [] → parts line ≡ numbersFrom 0 n all
   all-numbers h e =
       so .read ∙ ap (λ (l : List Part). map Number (take i all) ++ l) (no-part rest e) ∙ append-nil (map Number (take i all))
-      ∙ ap (map Number) (take-all i all (omega (arith, so .long)))
+      ∙ ap (map Number) (take-all i all (omega (arith, so .long))) ∙ numbers-are n all [] all (so .long) refl

@@ -1,3 +1,4 @@
 pub mod Commands
+pub mod Laws
 pub mod Line
 pub mod Text

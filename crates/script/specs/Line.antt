@@ -1,9 +1,9 @@
 -- A line of a script: its words, and the numbers among them. Assumes nothing.
 use mathlib.Core.Bool.{Bool, true, false, cond, _&&_, _||_}
 use mathlib.Core.List.{List, [], _∷_, _++_, map}
-use Prim.Native.Nat.{ℕ, _-_, _^_, min}
+use Prim.Native.Nat.{ℕ, zero, suc, _-_, _^_, min}
 use lib.Dec.{eqb, ltb}
-use lib.ListN.{length}
+use lib.ListN.{getD, length}
 use Rattle.std.specs.declared.option.Option.{Option}
 use Rattle.std.specs.declared.option.Option.the-variants.{Some, None}
 use Rattle.std.specs.Reads.{value}
@@ -25,20 +25,20 @@ abbrev pub startsBlank : List ℕ → Bool
 startsBlank [] = false
 startsBlank (b ∷ bs) = eqb b 32 || (eqb b 9 || (eqb b 13 && eqb (length bs) 0))
 
--- the words after a word that has begun, or none yet, as w
-abbrev pub then : List ℕ → List (List ℕ) → List (List ℕ)
-then [] ws = ws
-then (b ∷ bs) ws = (b ∷ bs) ∷ ws
+-- w stands before ws, if it is a word
+abbrev pub wordThen : List ℕ → List (List ℕ) → List (List ℕ)
+wordThen [] ws = ws
+wordThen (b ∷ bs) ws = (b ∷ bs) ∷ ws
 
+-- the words of a line of which w is read, the word that has begun
 abbrev pub wordsAfter : List ℕ → List ℕ → List (List ℕ)
-wordsAfter w [] = then w []
-wordsAfter w (b ∷ bs) = cond (startsBlank (b ∷ bs)) (then w (wordsAfter [] bs)) (wordsAfter (w ++ b ∷ []) bs)
+wordsAfter w [] = wordThen w []
+wordsAfter w (b ∷ bs) = cond (startsBlank (b ∷ bs)) (wordThen w (wordsAfter [] bs)) (wordsAfter (w ++ b ∷ []) bs)
 
--- the words of a line
 abbrev pub words : List ℕ → List (List ℕ)
 words bs = wordsAfter [] bs
 
--- a word that is a number counts as that number
+-- a word of a line: one that is a number counts as that number
 pub data Part : Type 0 where
   Number : ℕ → Part
   Word : List ℕ → Part
@@ -49,3 +49,8 @@ partBy w None = Word w
 
 abbrev pub parts : List ℕ → List Part
 parts line = map (λ w. partBy w (numberOf w)) (words line)
+
+-- the k numbers of an array from its index i on
+abbrev pub numbersFrom : ℕ → ℕ → List ℕ → List Part
+numbersFrom i zero ns = []
+numbersFrom i (suc k) ns = Number (getD ns i 0) ∷ numbersFrom (suc i) k ns

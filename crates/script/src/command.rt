@@ -6,49 +6,60 @@ ghost use lib.Chars.{codes};
 ghost use lib.ListN.{length};
 ghost use Rattle.std.specs.Options.{Cases as BySome};
 ghost use Rattle.std.specs.Results.{Cases};
-ghost use Rattle.script.specs.Line.{Number, Part, Word, parts};
+ghost use Rattle.script.specs.Line.{Number, Part, Word, numbersFrom, parts};
 ghost use Rattle.script.specs.Commands.{Answered, Reads, spelling};
 use crate::line::next_number;
 use crate::line::next_word;
 use crate::line::numbers;
 
-#[derive(Clone, Copy, Debug, PartialEq, Eq)]
+/// What a line tells the network to do.
+#[derive(Clone, Copy)]
 pub enum Command {
+    /// The gate invites the handheld.
     Invite {
         gate: u64,
         hand: u64,
     },
+    /// The gate sends a body to the handheld.
     Send {
         gate: u64,
         hand: u64,
         body: u64,
     },
+    /// The gate sends a body to all.
     Broadcast {
         gate: u64,
         body: u64,
     },
+    /// The gate takes a new group key.
     Rotate {
         gate: u64,
     },
+    /// The gate gives the handheld word of its group key.
     Rekey {
         gate: u64,
         hand: u64,
     },
+    /// The gate is switched off and on.
     ForgetGate {
         gate: u64,
     },
+    /// The handheld sends a body to the gate.
     SendUp {
         hand: u64,
         gate: u64,
         body: u64,
     },
+    /// The handheld is switched off and on.
     ForgetHand {
         hand: u64,
     },
+    /// The message sent as the `place`-th is heard; one to all, by the handheld.
     Hear {
         hand: u64,
         place: u64,
     },
+    /// An invented begin reaches the handheld as from the gate, with this nonce.
     Begin {
         gate: u64,
         hand: u64,
@@ -59,7 +70,7 @@ pub enum Command {
 }
 
 /// The forms of a line, one for each command.
-#[derive(Clone, Copy, Debug, PartialEq, Eq)]
+#[derive(Clone, Copy)]
 pub enum Form {
     Invite,
     Send,
@@ -77,7 +88,7 @@ impl Form {
     // The numbers that end a line of this form.
     fn numbers<const N: usize>(self, rest: &[u8]) -> Result<[u64; N], Malformed>
         ensures { λ r. ⌜
-            Cases r (λ ns. (parts (now (rest .entry)) ≡ map Number ns) × (length ns ≡ N))
+            Cases r (λ ns. parts (now (rest .entry)) ≡ numbersFrom 0 N ns)
             (λ e. (e ≡ Malformed.Expected self) × ((ns : List ℕ) → length ns ≡ N → parts (now (rest .entry)) ≡ map Number ns → ⊥))
             ⌝ }
     {
@@ -86,7 +97,7 @@ impl Form {
 }
 
 /// What is wrong with a line that is no command.
-#[derive(Clone, Copy, Debug, PartialEq, Eq)]
+#[derive(Clone, Copy)]
 pub enum Malformed {
     /// It begins as no command does.
     NotACommand,
@@ -94,9 +105,9 @@ pub enum Malformed {
     Expected(Form),
 }
 
-/// The words of a script that are not numbers.
+// The words of a script that are not numbers.
 #[derive(Clone, Copy)]
-pub enum Keyword {
+enum Keyword {
     Hand,
     Hears,
     Begins,

@@ -80,7 +80,7 @@ impl fmt::Display for Row<'_> as RowDisplay {
     }
 }
 
-/// `place` is that of the message among those ever sent.
+/// Says that a message was sent, the `place`-th of all.
 pub fn sent(heap: Global, place: u64, row: &[u64]) -> Result<String, AllocError>
     ensures { λ r. ⌜ made r (λ t. string-bytes t ≡ codes "sent " ++ (decimal place ++ rowText (now (row .entry)))) ⌝ }
 {
@@ -88,6 +88,7 @@ pub fn sent(heap: Global, place: u64, row: &[u64]) -> Result<String, AllocError>
     format!(heap, "sent {place}{row}")
 }
 
+/// Says that an end hands a message on.
 pub fn hands_on(heap: Global, node: Node, row: &[u64]) -> Result<String, AllocError>
     ensures { λ r. ⌜ made r (λ t. string-bytes t ≡ nameOf node ++ (codes " hands on" ++ rowText (now (row .entry)))) ⌝ }
 {

@@ -16,4 +16,4 @@ pub returns-in-Some : need.returns-in-Some
 returns-in-Some g c = too-many (c .loop-n .inv) (c .loop-n .kept .n-index-end) (c .loop-n-test .left) _ (c .in-Some .field-0 .1 .now) (c .in-Some .ensures tt .0)
 
 pub returns-in-None : need.returns-in-None
-returns-in-None g c = (all-numbers (c .loop-n .inv) (c .loop-n-test .left) (c .in-None .ensures tt), c .loop-n .inv .long)
+returns-in-None g c = all-numbers (c .loop-n .inv) (c .loop-n-test .left) (c .in-None .ensures tt)

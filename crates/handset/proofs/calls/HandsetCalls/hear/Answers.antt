@@ -21,6 +21,6 @@ returns-in-Ok c =
     let y = stateOf (c .args .self .now) in
     let checked = c .in-Ok .ensures tt in
     heard (handVerdict (c .args .g) (c .args .s) row (c .args .genuine) y) y (stateOf (c .hear-message-effect .last .self)) (handHears (c .args .s) (messageOf row) y)
-      (c .hear-message-effect .result) (c .write-said .result) (c .write-delivered .result) (c .write-said .last .out) (c .write-delivered .last .out)
-      (checked .0) (c .hear-message-effect .ensures ∙ ap (λ (m : Message). handHears (c .args .s) m y) (checked .1))
-      (c .write-said .ensures .len) (c .write-delivered .ensures .len) (c .write-said .ensures .row) (c .write-delivered .ensures .row)
+    (c .hear-message-effect .result) (c .write-said .result) (c .write-delivered .result) (c .write-said .last .out) (c .write-delivered .last .out)
+    (checked .0) (c .hear-message-effect .ensures ∙ ap (λ (m : Message). handHears (c .args .s) m y) (checked .1))
+    (c .write-said .ensures .len) (c .write-delivered .ensures .len) (c .write-said .ensures .row) (c .write-delivered .ensures .row)

@@ -17,7 +17,7 @@ returns-in-Break-addressed c =
     let read = c .in-Continue-message .ensures tt in
     let other = c .in-Break-addressed .ensures tt in
     rw (p .1, p .2) (
-      refuses-others (c .args .g) (c .args .s) (c .args .row .now) (c .args .genuine) (c .args .self .now) (c .in-Continue-message .message) (read .0) (read .1) (other .0) ∙ ap Some (sym (other .1)))
+    refuses-others (c .args .g) (c .args .s) (c .args .row .now) (c .args .genuine) (c .args .self .now) (c .in-Continue-message .message) (read .0) (read .1) (other .0) ∙ ap Some (sym (other .1)))
 
 pub returns-in-Break-authentic : need.returns-in-Break-authentic
 returns-in-Break-authentic c =
@@ -25,10 +25,12 @@ returns-in-Break-authentic c =
     let read = c .in-Continue-message .ensures tt in
     let forged = c .in-Break-authentic .ensures tt in
     rw (p .1, p .2) (
-      refuses-forged (c .args .g) (c .args .s) (c .args .row .now) (c .args .genuine) (c .args .self .now) (c .in-Continue-message .message) (read .0) (read .1) (c .in-Continue-addressed .ensures tt) (forged .0) ∙ ap Some (sym (forged .1)))
+    refuses-forged (c .args .g) (c .args .s) (c .args .row .now) (c .args .genuine) (c .args .self .now) (c .in-Continue-message .message) (read .0) (read .1) (c .in-Continue-addressed .ensures tt) (forged .0) ∙ ap Some (sym (forged .1)))
 
 pub returns : need.returns
 returns c =
-    let read = c .in-Continue-message .ensures tt in
-    (refuses-not (c .args .g) (c .args .s) (c .args .row .now) (c .args .genuine) (c .args .self .now) (c .in-Continue-message .message) (read .0) (read .1) (c .in-Continue-addressed .ensures tt) (c .in-Continue-authentic .ensures tt),
-     read .1, code-is-small (c .args .row .now) (c .in-Continue-message .message) (read .0) (read .1))
+    let read = c .in-Continue-message .ensures tt in (
+      refuses-not (c .args .g) (c .args .s) (c .args .row .now) (c .args .genuine) (c .args .self .now) (c .in-Continue-message .message) (read .0) (read .1) (c .in-Continue-addressed .ensures tt) (c .in-Continue-authentic .ensures tt),
+      read .1,
+      code-is-small (c .args .row .now) (c .in-Continue-message .message) (read .0) (read .1),
+    )

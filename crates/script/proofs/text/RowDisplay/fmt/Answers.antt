@@ -1,8 +1,9 @@
 use mathlib.Core.Path.{refl, ap}
-use Rattle.std.proofs.Writes.{put-more, put-is, wrote-none}
+use mathlib.Core.Bool.{true}
+use Rattle.std.proofs.Writes.{put-is, wrote-none}
 use Rattle.std.proofs.shelf.Lists.{take-all}
 use Rattle.script.specs.Text.{rowText}
-use Rattle.script.proofs.Rows.{row-more}
+use Rattle.script.proofs.Rows.{put-row}
 use Rattle.script.proofs.text.RowDisplay.fmt.Needs as need
 
 pub loop-n-holds : need.loop-n-holds
@@ -11,9 +12,7 @@ loop-n-holds g c plain = record { wrote = wrote-none (g .W·Write .took) _; plai
 pub loop-n-again : need.loop-n-again
 loop-n-again g c plain =
     let so = c .loop-n .inv plain in
-    let row = c .args .self .now .0 .now in
-    put-is (g .W·Write .took) _ _ _ _ (row-more row (c .loop-n .n-index) (c .loop-n-test .taken))
-    (put-more (g .W·Write .took) _ _ _ _ _ so (c .in-Continue-write .ensures tt .shows (so .plain) refl))
+    put-row (g .W·Write .took) (c .args .f .now) (c .loop-n .f) (c .write .last .self) (c .args .self .now .0 .now) (c .loop-n .n-index) (c .loop-n-test .taken) so (c .in-Continue-write .ensures tt .shows (so .plain) (refl {a = true}))
 
 pub returns : need.returns
-returns g c plain ok = put-is (g .W·Write .took) _ _ _ _ (ap rowText (take-all _ _ (c .loop-n-test .left))) (c .loop-n .inv plain)
+returns g c plain ok = put-is (g .W·Write .took) (c .args .f .now) _ _ (c .loop-n .f) (ap rowText (take-all _ _ (c .loop-n-test .left))) (c .loop-n .inv plain)

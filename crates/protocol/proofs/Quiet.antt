@@ -13,7 +13,11 @@ use Rattle.protocol.specs.declared.held.Endpoint.{Endpoint}
 use Rattle.protocol.specs.declared.held.GatePeer.{GatePeer}
 use Rattle.protocol.specs.declared.held.HandPeer.{HandPeer}
 use Rattle.protocol.specs.Held.{HandState, GateState}
-use Rattle.protocol.specs.Rules.{Out, quiet, within, endSendsBy, endRekeysBy, gatePeer, handAt, handSend, HandAct, SendUp, ForgetHand, handActs, handPeer, gateAt, gateInvite, gateSend, gateRekey, GateAct, Invite, SendDown, Broadcast, Rotate, Rekey, ForgetGate, gateActs}
+use Rattle.protocol.specs.declared.acts.HandAct.{HandAct}
+use Rattle.protocol.specs.declared.acts.HandAct.the-variants.{SendUp, ForgetHand}
+use Rattle.protocol.specs.declared.acts.GateAct.{GateAct}
+use Rattle.protocol.specs.declared.acts.GateAct.the-variants.{Invite, SendDown, Broadcast, Rotate, Rekey, ForgetGate}
+use Rattle.protocol.specs.Rules.{Out, quiet, within, endSendsBy, endRekeysBy, gatePeer, handAt, handSend, handActs, handPeer, gateAt, gateInvite, gateSend, gateRekey, gateActs}
 use Rattle.protocol.specs.Calls.{handMay, handDoes, gateMay, gateDoes}
 
 -- either way

@@ -1,0 +1,13 @@
+pub mod Base
+pub mod Ends
+pub mod Gates
+pub mod Hands
+pub mod Rows
+pub mod Invariant
+pub mod Keeps
+pub mod Once
+pub mod Delivery
+pub mod Keys
+pub mod Way
+pub mod Props
+pub mod Reach

@@ -1,0 +1,3 @@
+mod Blocks
+mod Bits
+pub mod Parts
