@@ -38,6 +38,42 @@ impl State {
             State::Both(offer, key) => (Some(offer.spend()), Some(key)),
         }
     }
+
+    fn withdraw(self) -> State
+        ensures offer { λ r. ⌜ offeredIn r ≡ None ⌝ }
+        ensures used { λ r. ⌜ keyIn r ≡ keyIn self ⌝ }
+    {
+        match self {
+            State::Nothing => State::Nothing,
+            State::Offered(offer) => {
+                offer.withdraw();
+                State::Nothing
+            }
+            State::InUse(key) => State::InUse(key),
+            State::Both(offer, key) => {
+                offer.withdraw();
+                State::InUse(key)
+            }
+        }
+    }
+
+    fn offer(self, offer: Offer) -> State
+        ensures offer { λ r. ⌜ offeredIn r ≡ Some (offer .pair) ⌝ }
+        ensures used { λ r. ⌜ keyIn r ≡ keyIn self ⌝ }
+    {
+        match self {
+            State::Nothing => State::Offered(offer),
+            State::Offered(old) => {
+                old.withdraw();
+                State::Offered(offer)
+            }
+            State::InUse(key) => State::Both(offer, key),
+            State::Both(old, key) => {
+                old.withdraw();
+                State::Both(offer, key)
+            }
+        }
+    }
 }
 
 impl Session {
@@ -110,37 +146,12 @@ impl Session {
             floor,
             round,
         } = self;
-        match state {
-            State::Nothing => Session {
-                state: State::Offered(offer),
-                send,
-                floor,
-                round,
-            },
-            State::Offered(old) => {
-                old.withdraw();
-                Session {
-                    state: State::Offered(offer),
-                    send,
-                    floor,
-                    round,
-                }
-            }
-            State::InUse(key) => Session {
-                state: State::Both(offer, key),
-                send,
-                floor,
-                round,
-            },
-            State::Both(old, key) => {
-                old.withdraw();
-                Session {
-                    state: State::Both(offer, key),
-                    send,
-                    floor,
-                    round,
-                }
-            }
+        let state = state.offer(offer);
+        Session {
+            state,
+            send,
+            floor,
+            round,
         }
     }
 
@@ -154,37 +165,12 @@ impl Session {
             floor,
             round,
         } = self;
-        match state {
-            State::Nothing => Session {
-                state: State::Nothing,
-                send,
-                floor,
-                round,
-            },
-            State::Offered(offer) => {
-                offer.withdraw();
-                Session {
-                    state: State::Nothing,
-                    send,
-                    floor,
-                    round,
-                }
-            }
-            State::InUse(key) => Session {
-                state: State::InUse(key),
-                send,
-                floor,
-                round,
-            },
-            State::Both(offer, key) => {
-                offer.withdraw();
-                Session {
-                    state: State::InUse(key),
-                    send,
-                    floor,
-                    round,
-                }
-            }
+        let state = state.withdraw();
+        Session {
+            state,
+            send,
+            floor,
+            round,
         }
     }
 
@@ -199,17 +185,13 @@ impl Session {
             round,
         } = self;
         match state {
+            State::Offered(offer) => Session::begin(offer.spend()),
+            State::Both(offer, _) => Session::begin(offer.spend()),
             State::Nothing => Session {
                 state: State::Nothing,
                 send,
                 floor,
                 round,
-            },
-            State::Offered(offer) => Session {
-                state: State::InUse(offer.spend()),
-                send: 0,
-                floor: 0,
-                round: 0,
             },
             State::InUse(key) => Session {
                 state: State::InUse(key),
@@ -217,12 +199,17 @@ impl Session {
                 floor,
                 round,
             },
-            State::Both(offer, _) => Session {
-                state: State::InUse(offer.spend()),
-                send: 0,
-                floor: 0,
-                round: 0,
-            },
+        }
+    }
+
+    fn begin(key: Pair) -> Session
+        ensures { λ r. ⌜ endpointOf r ≡ installed key ⌝ }
+    {
+        Session {
+            state: State::InUse(key),
+            send: 0,
+            floor: 0,
+            round: 0,
         }
     }
 }

@@ -49,16 +49,17 @@ impl Message {
                 6
             }
             Message::Reply { pair: p } => {
+                let (a, s) = (p.anonce, p.snonce);
                 *out = [
                     1,
                     p.gate,
                     p.hand,
-                    p.anonce.kind,
-                    p.anonce.node,
-                    p.anonce.index,
-                    p.snonce.kind,
-                    p.snonce.node,
-                    p.snonce.index,
+                    a.kind,
+                    a.node,
+                    a.index,
+                    s.kind,
+                    s.node,
+                    s.index,
                     0,
                     0,
                     0,
@@ -70,33 +71,35 @@ impl Message {
                 counter,
                 pair: p,
             } => {
+                let (a, s) = (p.anonce, p.snonce);
                 *out = [
                     2,
                     group,
                     counter,
                     p.gate,
                     p.hand,
-                    p.anonce.kind,
-                    p.anonce.node,
-                    p.anonce.index,
-                    p.snonce.kind,
-                    p.snonce.node,
-                    p.snonce.index,
+                    a.kind,
+                    a.node,
+                    a.index,
+                    s.kind,
+                    s.node,
+                    s.index,
                     0,
                 ];
                 11
             }
             Message::Taken { pair: p } => {
+                let (a, s) = (p.anonce, p.snonce);
                 *out = [
                     3,
                     p.gate,
                     p.hand,
-                    p.anonce.kind,
-                    p.anonce.node,
-                    p.anonce.index,
-                    p.snonce.kind,
-                    p.snonce.node,
-                    p.snonce.index,
+                    a.kind,
+                    a.node,
+                    a.index,
+                    s.kind,
+                    s.node,
+                    s.index,
                     0,
                     0,
                     0,
@@ -109,6 +112,7 @@ impl Message {
                 counter,
                 pair: p,
             } => {
+                let (a, s) = (p.anonce, p.snonce);
                 *out = [
                     4,
                     round,
@@ -116,12 +120,12 @@ impl Message {
                     counter,
                     p.gate,
                     p.hand,
-                    p.anonce.kind,
-                    p.anonce.node,
-                    p.anonce.index,
-                    p.snonce.kind,
-                    p.snonce.node,
-                    p.snonce.index,
+                    a.kind,
+                    a.node,
+                    a.index,
+                    s.kind,
+                    s.node,
+                    s.index,
                 ];
                 12
             }
@@ -131,6 +135,7 @@ impl Message {
                 body,
                 pair: p,
             } => {
+                let (a, s) = (p.anonce, p.snonce);
                 let flag = direction.flag();
                 *out = [
                     5,
@@ -139,12 +144,12 @@ impl Message {
                     body,
                     p.gate,
                     p.hand,
-                    p.anonce.kind,
-                    p.anonce.node,
-                    p.anonce.index,
-                    p.snonce.kind,
-                    p.snonce.node,
-                    p.snonce.index,
+                    a.kind,
+                    a.node,
+                    a.index,
+                    s.kind,
+                    s.node,
+                    s.index,
                 ];
                 12
             }

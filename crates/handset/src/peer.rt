@@ -81,7 +81,7 @@ fn hear_take(peer: &mut GatePeer, group: u64, counter: u64, pair: Pair) -> Effec
         }
         _ => match session.key() {
             Some(key) if same_pair(&pair, &key) => {
-                peer.end = session.close();
+                peer.end = session.close(); // its counters go on
                 Effect::say(Message::Taken { pair })
             }
             _ => {
