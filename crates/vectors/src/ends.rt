@@ -29,14 +29,6 @@ enum Input {
     HandHears(Message),
 }
 
-/// What is done or heard, and what is said and delivered then.
-#[derive(Clone, Copy)]
-struct Step {
-    input: Input,
-    says: Option<Message>,
-    takes: Option<Message>,
-}
-
 const fn pair(m: u64, n: u64) -> Pair {
     Pair {
         gate: 0,
