@@ -14,11 +14,17 @@ use handset::HandsetCalls;
 use std::test::*;
 
 const INVITE: u8 = 0;
+
 const SEND_DOWN: u8 = 1;
+
 const BROADCAST: u8 = 2;
+
 const ROTATE: u8 = 3;
+
 const REKEY: u8 = 4;
+
 const SEND_UP: u8 = 0;
+
 const FORGET: u8 = 1;
 
 #[derive(Clone, Copy)]
@@ -33,25 +39,55 @@ const fn pair(m: u64, n: u64) -> Pair {
     Pair {
         gate: 0,
         hand: 0,
-        anonce: Nonce { kind: 0, node: 0, index: m },
-        snonce: Nonce { kind: 1, node: 0, index: n },
+        anonce: Nonce {
+            kind: 0,
+            node: 0,
+            index: m,
+        },
+        snonce: Nonce {
+            kind: 1,
+            node: 0,
+            index: n,
+        },
     }
 }
 
 fn begin(m: u64) -> Message {
-    Message::Begin { gate: 0, hand: 0, anonce: Nonce { kind: 0, node: 0, index: m } }
+    Message::Begin {
+        gate: 0,
+        hand: 0,
+        anonce: Nonce {
+            kind: 0,
+            node: 0,
+            index: m,
+        },
+    }
 }
 
 fn take(group: u64, counter: u64, pair: Pair) -> Message {
-    Message::Take { group, counter, pair }
+    Message::Take {
+        group,
+        counter,
+        pair,
+    }
 }
 
 fn load(direction: Direction, counter: u64, body: u64, pair: Pair) -> Message {
-    Message::Load { direction, counter, body, pair }
+    Message::Load {
+        direction,
+        counter,
+        body,
+        pair,
+    }
 }
 
 fn all(group: u64, counter: u64, body: u64) -> Message {
-    Message::All { gate: 0, group, counter, body }
+    Message::All {
+        gate: 0,
+        group,
+        counter,
+        body,
+    }
 }
 
 /// One gate, one handheld.
@@ -63,11 +99,19 @@ struct Ends {
 
 impl Ends {
     fn new() -> Ends {
-        Ends { gate: Gateway::new(1), hand: Handset::new(1) }
+        Ends {
+            gate: Gateway::new(1),
+            hand: Handset::new(1),
+        }
     }
 
     /// What is done or heard says and delivers just this.
-    fn expect(&mut self, input: Input, says: Option<Message>, takes: Option<Message>) -> Result<(), Fail> {
+    fn expect(
+        &mut self,
+        input: Input,
+        says: Option<Message>,
+        takes: Option<Message>,
+    ) -> Result<(), Fail> {
         let mut said = [7; ROW];
         let mut taken = [0; ROW];
         let mut row = [0; ROW];
@@ -80,12 +124,14 @@ impl Ends {
             }
             Input::GateHears(message) => {
                 let len = message.write(&mut row) as usize;
-                let heard = self.gate.hear(0, 1, &row[0..len], true, &mut said, &mut taken);
+                let heard = self.gate
+                    .hear(0, 1, &row[0..len], true, &mut said, &mut taken);
                 check(heard.code == 0)?;
             }
             Input::HandHears(message) => {
                 let len = message.write(&mut row) as usize;
-                let heard = self.hand.hear(1, 0, &row[0..len], true, &mut said, &mut taken);
+                let heard = self.hand
+                    .hear(1, 0, &row[0..len], true, &mut said, &mut taken);
                 check(heard.code == 0)?;
             }
         }
@@ -189,7 +235,12 @@ fn e_a_handheld_that_forgot_meets_anew() -> Result<(), Fail> {
 fn f_frames_to_all() -> Result<(), Fail> {
     let mut ends = Ends::new();
     let p = pair(0, 0);
-    let renew = Message::Renew { round: 1, group: 2, counter: 0, pair: p };
+    let renew = Message::Renew {
+        round: 1,
+        group: 2,
+        counter: 0,
+        pair: p,
+    };
     ends.meet(0, 0, 1, 0)?;
     ends.gate_acts(BROADCAST, 5, Some(all(1, 0, 5)))?;
     ends.gate_acts(BROADCAST, 5, Some(all(1, 1, 5)))?;
@@ -226,6 +277,14 @@ fn refusals_in_order() -> Result<(), Fail> {
 fn code(hand: &mut Handset, row: &[u64], genuine: bool) -> u32 {
     let mut says = [7; ROW];
     let mut takes = [7; ROW];
-    let Heard { code, says: said, takes: taken } = hand.hear(255, 0, row, genuine, &mut says, &mut takes);
-    if said == 0 && taken == 0 && says == [0; ROW] && takes == [0; ROW] { code } else { 99 }
+    let Heard {
+        code,
+        says: said,
+        takes: taken,
+    } = hand.hear(255, 0, row, genuine, &mut says, &mut takes);
+    if said == 0 && taken == 0 && says == [0; ROW] && takes == [0; ROW] {
+        code
+    } else {
+        99
+    }
 }
