@@ -8,8 +8,9 @@ mod rules;
 mod session;
 mod states;
 
+pub use call::Addressee;
 pub use call::Heard;
-pub use call::authentic;
+pub use call::check;
 pub use call::write;
 pub use effect::Effect;
 pub use offer::Offer;

@@ -1,76 +1,61 @@
 //! The calls of a gate, over its rules: a row is checked, heard, and answered by rows.
 ghost use mathlib.Core.Path.{_≡_};
-ghost use mathlib.Core.Bool.{true, false};
-ghost use Prim.Native.Nat.{min};
-ghost use Rattle.std.specs.declared.option.Option.the-variants.{Some, None};
-ghost use Rattle.std.specs.declared.result.Result.the-variants.{Ok, Err};
-ghost use Rattle.frame.specs.Row.{code, isSmall, messageOf};
-ghost use Rattle.protocol.specs.Calls.{pairForGate, isForGate, gateVerdict, gateActOf, gateDoes};
+ghost use Rattle.protocol.specs.Calls.{pairForGate, isForGate, gateActOf, gateDoes};
 ghost use Rattle.endpoint.specs.Effects.{outOf};
 ghost use Rattle.gateway.specs.State.{stateOf};
 use crate::gateway::Gateway;
 use crate::post::Post;
+use endpoint::Addressee;
 use endpoint::Effect;
 use endpoint::Heard;
-use endpoint::authentic;
+use endpoint::check;
 use endpoint::write;
 use frame::Direction;
 use frame::Message;
 use frame::Pair;
 use frame::ROW;
-use frame::Refusal;
 use protocol::GateAct;
 
-/// Whether a message is for gate `g`, where there are so many handhelds.
-fn is_for(message: &Message, g: u8, hands: u16) -> bool
-    ensures { λ r. ⌜ r ≡ isForGate g hands (now (message .entry)) ⌝ }
-{
-    match message {
-        Message::Begin { .. } => false,
-        Message::Reply { pair } => names(pair, g, hands),
-        Message::Take { .. } => false,
-        Message::Taken { pair } => names(pair, g, hands),
-        Message::Renew { .. } => false,
-        Message::Load {
-            direction,
-            counter: _,
-            body: _,
-            pair,
-        } => match direction {
-            Direction::Up => names(pair, g, hands),
-            Direction::Down => false,
-        },
-        Message::All { .. } => false,
+/// Gate `g`, where there are so many handhelds.
+#[derive(Clone, Copy)]
+struct Listener {
+    g: u8,
+    hands: u16,
+}
+
+impl Listener {
+    fn is_named(&self, pair: &Pair) -> bool
+        ensures { λ r. ⌜ r ≡ pairForGate (now (self .entry) .g) (now (self .entry) .hands) (now (pair .entry)) ⌝ }
+    {
+        pair.gate == self.g as u64 && pair.hand < self.hands as u64
     }
 }
 
-fn names(pair: &Pair, g: u8, hands: u16) -> bool
-    ensures { λ r. ⌜ r ≡ pairForGate g hands (now (pair .entry)) ⌝ }
-{
-    pair.gate == g as u64 && pair.hand < hands as u64
+impl Addressee for Listener as ListenerAddressee {
+    ghost addressed = { λ l m. isForGate (l .g) (l .hands) m };
+
+    fn is_for(&self, message: &Message) -> bool {
+        match message {
+            Message::Begin { .. } => false,
+            Message::Reply { pair } => self.is_named(pair),
+            Message::Take { .. } => false,
+            Message::Taken { pair } => self.is_named(pair),
+            Message::Renew { .. } => false,
+            Message::Load {
+                direction,
+                counter: _,
+                body: _,
+                pair,
+            } => match direction {
+                Direction::Up => self.is_named(pair),
+                Direction::Down => false,
+            },
+            Message::All { .. } => false,
+        }
+    }
 }
 
 impl Gateway {
-    fn addressed(&self, message: &Message, g: u8, s: u16) -> Result<(), Refusal>
-        ensures { λ r. ⌜ elim r [ Ok _ ↦ isForGate g (min s (now (self .entry) .many)) (now (message .entry)) ≡ true | Err e ↦ (isForGate g (min s (now (self .entry) .many)) (now (message .entry)) ≡ false) × (e ≡ Refusal.NotForThisEnd) ] ⌝ }
-    {
-        if is_for(message, g, s.min(self.many)) {
-            Ok(())
-        } else {
-            Err(Refusal::NotForThisEnd)
-        }
-    }
-
-    /// The message of a row, or the first refusal that applies.
-    fn check(&self, g: u8, s: u16, row: &[u64], genuine: bool) -> Result<Message, Refusal>
-        ensures { λ r. ⌜ elim r [ Ok m ↦ (gateVerdict g s (now (row .entry)) genuine (stateOf (now (self .entry))) ≡ None) × (m ≡ messageOf (now (row .entry))) × (isSmall (code m) ≡ true) | Err e ↦ gateVerdict g s (now (row .entry)) genuine (stateOf (now (self .entry))) ≡ Some e ] ⌝ }
-    {
-        let message = Message::read(row)?;
-        self.addressed(&message, g, s)?;
-        authentic(&message, genuine)?;
-        Ok(message)
-    }
-
     /// What it does of itself; towards handhelds beyond those that the caller counts, nothing.
     fn do_act(&mut self, g: u8, hands: u16, act: GateAct) -> Effect
         ensures { λ r. ⌜ outOf r (stateOf (now (self .exit))) ≡ gateDoes g hands act (stateOf (now (self .entry))) ⌝ }
@@ -127,7 +112,11 @@ pub impl Post for Gateway as GatewayCalls {
         says: &mut [u64; ROW],
         takes: &mut [u64; ROW],
     ) -> Heard {
-        match self.check(g, s, message, genuine) {
+        let listener = Listener {
+            g,
+            hands: s.min(self.many),
+        };
+        match check(&listener, message, genuine) {
             Err(refusal) => {
                 let code = refusal.number();
                 *says = [0; ROW];

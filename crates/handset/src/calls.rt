@@ -1,93 +1,76 @@
 //! The calls of a handheld, over its rules: a row is checked, heard, and answered by rows.
 ghost use mathlib.Core.Path.{_≡_};
-ghost use mathlib.Core.Bool.{true, false};
-ghost use Prim.Native.Nat.{min};
-ghost use Rattle.std.specs.declared.option.Option.the-variants.{Some, None};
-ghost use Rattle.std.specs.declared.result.Result.the-variants.{Ok, Err};
-ghost use Rattle.frame.specs.Row.{code, isSmall, messageOf};
 ghost use Rattle.protocol.specs.Rules.{quiet, handForgets};
-ghost use Rattle.protocol.specs.Calls.{pairForHand, isForHand, handVerdict, handActOf, handDoes};
+ghost use Rattle.protocol.specs.Calls.{pairForHand, isForHand, handActOf, handDoes};
 ghost use Rattle.endpoint.specs.Effects.{outOf};
 ghost use Rattle.handset.specs.State.{stateOf};
 use crate::hand::Hand;
 use crate::handset::Handset;
+use endpoint::Addressee;
 use endpoint::Effect;
 use endpoint::Heard;
-use endpoint::authentic;
+use endpoint::check;
 use endpoint::write;
 use frame::Direction;
 use frame::Message;
 use frame::Pair;
 use frame::ROW;
-use frame::Refusal;
 use protocol::HandAct;
 
-/// Whether a message is for handheld `s`, where there are so many gates.
-fn is_for(message: &Message, gates: u8, s: u16) -> bool
-    ensures { λ r. ⌜ r ≡ isForHand gates s (now (message .entry)) ⌝ }
-{
-    match message {
-        Message::Begin {
-            gate,
-            hand,
-            anonce: _,
-        } => *gate < gates as u64 && *hand == s as u64,
-        Message::Reply { .. } => false,
-        Message::Take {
-            group: _,
-            counter: _,
-            pair,
-        } => names(pair, gates, s),
-        Message::Taken { .. } => false,
-        Message::Renew {
-            round: _,
-            group: _,
-            counter: _,
-            pair,
-        } => names(pair, gates, s),
-        Message::Load {
-            direction,
-            counter: _,
-            body: _,
-            pair,
-        } => match direction {
-            Direction::Up => false,
-            Direction::Down => names(pair, gates, s),
-        },
-        Message::All {
-            gate,
-            group: _,
-            counter: _,
-            body: _,
-        } => *gate < gates as u64,
+/// Handheld `s`, where there are so many gates.
+#[derive(Clone, Copy)]
+struct Listener {
+    gates: u8,
+    s: u16,
+}
+
+impl Listener {
+    fn is_named(&self, pair: &Pair) -> bool
+        ensures { λ r. ⌜ r ≡ pairForHand (now (self .entry) .gates) (now (self .entry) .s) (now (pair .entry)) ⌝ }
+    {
+        pair.gate < self.gates as u64 && pair.hand == self.s as u64
     }
 }
 
-fn names(pair: &Pair, gates: u8, s: u16) -> bool
-    ensures { λ r. ⌜ r ≡ pairForHand gates s (now (pair .entry)) ⌝ }
-{
-    pair.gate < gates as u64 && pair.hand == s as u64
-}
+impl Addressee for Listener as ListenerAddressee {
+    ghost addressed = { λ l m. isForHand (l .gates) (l .s) m };
 
-impl Handset {
-    fn addressed(&self, message: &Message, g: u8, s: u16) -> Result<(), Refusal>
-        ensures { λ r. ⌜ elim r [ Ok _ ↦ isForHand (min g (now (self .entry) .many)) s (now (message .entry)) ≡ true | Err e ↦ (isForHand (min g (now (self .entry) .many)) s (now (message .entry)) ≡ false) × (e ≡ Refusal.NotForThisEnd) ] ⌝ }
-    {
-        if is_for(message, g.min(self.many), s) {
-            Ok(())
-        } else {
-            Err(Refusal::NotForThisEnd)
+    fn is_for(&self, message: &Message) -> bool {
+        match message {
+            Message::Begin {
+                gate,
+                hand,
+                anonce: _,
+            } => *gate < self.gates as u64 && *hand == self.s as u64,
+            Message::Reply { .. } => false,
+            Message::Take {
+                group: _,
+                counter: _,
+                pair,
+            } => self.is_named(pair),
+            Message::Taken { .. } => false,
+            Message::Renew {
+                round: _,
+                group: _,
+                counter: _,
+                pair,
+            } => self.is_named(pair),
+            Message::Load {
+                direction,
+                counter: _,
+                body: _,
+                pair,
+            } => match direction {
+                Direction::Up => false,
+                Direction::Down => self.is_named(pair),
+            },
+            Message::All {
+                gate,
+                group: _,
+                counter: _,
+                body: _,
+            } => *gate < self.gates as u64,
         }
-    }
-
-    /// The message of a row, or the first refusal that applies.
-    fn check(&self, g: u8, s: u16, row: &[u64], genuine: bool) -> Result<Message, Refusal>
-        ensures { λ r. ⌜ elim r [ Ok m ↦ (handVerdict g s (now (row .entry)) genuine (stateOf (now (self .entry))) ≡ None) × (m ≡ messageOf (now (row .entry))) × (isSmall (code m) ≡ true) | Err e ↦ handVerdict g s (now (row .entry)) genuine (stateOf (now (self .entry))) ≡ Some e ] ⌝ }
-    {
-        let message = Message::read(row)?;
-        self.addressed(&message, g, s)?;
-        authentic(&message, genuine)?;
-        Ok(message)
     }
 }
 
@@ -146,7 +129,11 @@ pub impl Hand for Handset as HandsetCalls {
         says: &mut [u64; ROW],
         takes: &mut [u64; ROW],
     ) -> Heard {
-        match self.check(g, s, message, genuine) {
+        let listener = Listener {
+            gates: g.min(self.many),
+            s,
+        };
+        match check(&listener, message, genuine) {
             Err(refusal) => {
                 let code = refusal.number();
                 *says = [0; ROW];

@@ -67,21 +67,22 @@ isTagged (All g n c b) = true
 abbrev pub verdict : (message ours authentic : Bool) → Option Refusal
 verdict m o a = cond (not m) (Some NoMessage) (cond (not o) (Some NotForThisEnd) (cond (not a) (Some WrongTag) None))
 
+-- by whom a message is for, and whether its tag was right
+abbrev pub verdictOn : (isFor : Message → Bool) → (row : List ℕ) → (genuine : Bool) → Option Refusal
+verdictOn isFor row genuine = verdict (isMessage row) (isFor (messageOf row)) (genuine || not (isTagged (messageOf row)))
+
 -- the code that a call answers: 0, or the refusal's number
 abbrev pub codeOf : Option Refusal → ℕ
 codeOf None = 0
 codeOf (Some r) = refusalNumber r
 
--- what handheld s makes of a row, where the caller counts g gates; genuine says whether its tag was right, and gates
--- beyond those that it holds do not count
+-- what handheld s makes of a row, where the caller counts g gates; gates beyond those that it holds do not count
 unfoldable pub handVerdict : (g s : ℕ) → (row : List ℕ) → (genuine : Bool) → HandState → Option Refusal
-handVerdict g s row genuine y =
-    verdict (isMessage row) (isForHand (min g (length (y .peers))) s (messageOf row)) (genuine || not (isTagged (messageOf row)))
+handVerdict g s row genuine y = verdictOn (isForHand (min g (length (y .peers))) s) row genuine
 
 -- and gate g, where the caller counts s handhelds
 unfoldable pub gateVerdict : (g s : ℕ) → (row : List ℕ) → (genuine : Bool) → GateState → Option Refusal
-gateVerdict g s row genuine y =
-    verdict (isMessage row) (isForGate g (min s (length (y .peers))) (messageOf row)) (genuine || not (isTagged (messageOf row)))
+gateVerdict g s row genuine y = verdictOn (isForGate g (min s (length (y .peers)))) row genuine
 
 -- ---- hearing a row
 
