@@ -1,6 +1,7 @@
 //! Plays a script of gates and handhelds: reads a line, plays it, prints the answer.
 use script::line::number;
 use simulator::Answer;
+use simulator::AnswerDisplay;
 use simulator::Simulator;
 use std::env;
 use std::error::AnyError;
@@ -21,22 +22,23 @@ fn main(rt: LibcRuntime) -> Result<(), AnyError> {
 
 fn run(rt: &LibcRuntime) -> Result<(), AnyError> {
     let (gates, hands) = arguments(rt)?;
-    let Some(mut simulator) = Simulator::new(gates, hands) else {
-        println!(rt, "full")?;
+    let Some(mut simulator) = Simulator::new(rt.alloc(), gates, hands)? else {
+        print!(rt, "{}", Answer::Full)?;
         return Ok(());
     };
     let mut count = 0u64;
     for line in BufReader::new(rt.stdin()).split(rt.alloc(), b'\n') {
         count = count.saturating_add(1);
         let line = line?;
-        match simulator.play(rt.alloc(), count, line.as_slice())? {
-            Answer::Nothing => {}
-            Answer::Line(text) => println!(rt, "{text}")?,
-            Answer::Complaint(text) => eprintln!(rt, "{text}")?,
+        let answer = simulator.play_line(count, line.as_slice());
+        match answer {
+            Answer::Nothing | Answer::Played(_) => print!(rt, "{answer}")?,
+            Answer::Complaint(_) | Answer::Absent { .. } => eprint!(rt, "{answer}")?,
             Answer::Full => {
-                println!(rt, "full")?;
+                print!(rt, "{answer}")?;
                 break;
             }
+            Answer::NoMemory => return Err("out of memory".into()),
         }
     }
     Ok(())

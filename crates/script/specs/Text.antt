@@ -8,8 +8,8 @@ use Rattle.script.specs.declared.command.Form.{Form}
 use Rattle.script.specs.declared.command.Form.the-variants as form
 use Rattle.script.specs.declared.command.Malformed.{Malformed}
 use Rattle.script.specs.declared.command.Malformed.the-variants.{NotACommand, Expected}
-use Rattle.script.specs.declared.text.Node.{Node}
-use Rattle.script.specs.declared.text.Node.the-variants.{Gate, Hand}
+use Rattle.frame.specs.declared.message.Node.{Node}
+use Rattle.frame.specs.declared.message.Node.the-variants.{Gate, Hand}
 
 -- an end as the lines of a script name it
 abbrev pub nameOf : Node → List ℕ
@@ -36,3 +36,15 @@ usageOf form.Begin = codes "begins GATE HAND KIND NODE INDEX"
 abbrev pub faultText : Malformed → List ℕ
 faultText NotACommand = codes "not a command"
 faultText (Expected f) = codes "expected " ++ usageOf f
+
+-- ---- the lines that are printed
+
+abbrev pub sentText : (place : ℕ) → (row : List ℕ) → List ℕ
+sentText place row = codes "sent " ++ (decimal place ++ rowText row)
+
+abbrev pub handedOnText : Node → (row : List ℕ) → List ℕ
+handedOnText node row = nameOf node ++ (codes " hands on" ++ rowText row)
+
+-- a complaint names the line
+abbrev pub complaintText : (line : ℕ) → List ℕ → List ℕ
+complaintText line text = codes "line " ++ (decimal line ++ (codes ": " ++ text))

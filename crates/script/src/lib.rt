@@ -9,10 +9,17 @@ pub use command::Form;
 pub use command::Malformed;
 pub use command::parse;
 pub use line::number;
-pub use text::Node;
-pub use text::complaint;
-pub use text::hands_on;
-pub use text::sent;
+pub use text::Complaint;
+pub use text::ComplaintDisplay;
+pub use text::HandedOn;
+pub use text::HandedOnDisplay;
+pub use text::MalformedDisplay;
+pub use text::Name;
+pub use text::NameDisplay;
+pub use text::Row;
+pub use text::RowDisplay;
+pub use text::Sent;
+pub use text::SentDisplay;
 
 #[cfg(test)]
 mod tests;

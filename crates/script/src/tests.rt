@@ -1,4 +1,5 @@
 use super::*;
+use frame::Node;
 use std::test::*;
 
 macro_rules! read {
@@ -58,21 +59,32 @@ fn malformed() -> Result<(), Fail> {
 #[test]
 fn texts(rt: LibcRuntime) -> Result<(), Fail> {
     let heap = rt.alloc();
-    check_eq(sent(heap, 3, &[1, 20])?.as_str(), "sent 3 1 20")?;
+    let sent = Sent {
+        place: 3,
+        row: Row(&[1, 20]),
+    };
+    check_eq(sent.to_string(heap)?.as_str(), "sent 3 1 20")?;
+    let by_gate = HandedOn {
+        node: Node::Gate(0),
+        row: Row(&[7]),
+    };
+    check_eq(by_gate.to_string(heap)?.as_str(), "0 hands on 7")?;
+    let by_hand = HandedOn {
+        node: Node::Hand(1),
+        row: Row(&[7, 8]),
+    };
+    check_eq(by_hand.to_string(heap)?.as_str(), "hand 1 hands on 7 8")?;
+    let expected = Complaint {
+        line: 3,
+        fault: Malformed::Expected(Form::Invite),
+    };
     check_eq(
-        hands_on(heap, Node::Gate(0), &[7])?.as_str(),
-        "0 hands on 7",
-    )?;
-    check_eq(
-        hands_on(heap, Node::Hand(1), &[7, 8])?.as_str(),
-        "hand 1 hands on 7 8",
-    )?;
-    check_eq(
-        complaint(heap, 3, Malformed::Expected(Form::Invite))?.as_str(),
+        expected.to_string(heap)?.as_str(),
         "line 3: expected GATE invites HAND",
     )?;
-    check_eq(
-        complaint(heap, 4, Malformed::NotACommand)?.as_str(),
-        "line 4: not a command",
-    )
+    let unknown = Complaint {
+        line: 4,
+        fault: Malformed::NotACommand,
+    };
+    check_eq(unknown.to_string(heap)?.as_str(), "line 4: not a command")
 }

@@ -1,30 +1,21 @@
 // What a play of the script prints.
 ghost use mathlib.Core.Path.{_≡_};
-ghost use mathlib.Core.List.{_++_};
-ghost use lib.Chars.{codes};
-ghost use Rattle.std.specs.Of.String.{string-bytes};
-ghost use Rattle.std.specs.Vec.{made};
-ghost use Rattle.std.specs.Written.{decimal};
 ghost use Rattle.std.specs.declared.option.Option.the-variants.{Some};
-ghost use Rattle.script.specs.Text.{faultText, nameOf, rowText, usageOf};
+ghost use Rattle.script.specs.Text.{complaintText, faultText, handedOnText, nameOf, rowText, sentText, usageOf};
 use crate::command::Form;
 use crate::command::Malformed;
-use std::alloc::AllocError;
-use std::alloc::Global;
+use frame::Node;
 use std::fmt;
 
-/// An end of the network.
+/// An end, as the lines of a script name it.
 #[derive(Clone, Copy)]
-pub enum Node {
-    Gate(u64),
-    Hand(u64),
-}
+pub struct Name(pub Node);
 
-pub impl fmt::Display for Node as NodeDisplay {
-    ghost shown = { λ n. Some (nameOf n) };
+pub impl fmt::Display for Name as NameDisplay {
+    ghost shown = { λ name. Some (nameOf (name .0)) };
 
     fn fmt<W: fmt::Write>(&self, f: &mut fmt::Formatter<W>) -> fmt::Result {
-        match self {
+        match self.0 {
             Node::Gate(gate) => write!(f, "{gate}"),
             Node::Hand(hand) => write!(f, "hand {hand}"),
         }
@@ -65,11 +56,11 @@ pub impl fmt::Display for Malformed as MalformedDisplay {
     }
 }
 
-// The numbers of a message, each after a space.
+/// The numbers of a message, each after a space.
 #[derive(Clone, Copy)]
-struct Row<'a>(&'a [u64]);
+pub struct Row<'a>(pub &'a [u64]);
 
-impl fmt::Display for Row<'_> as RowDisplay {
+pub impl fmt::Display for Row<'_> as RowDisplay {
     ghost shown = { λ row. Some (rowText (row .0 .now)) };
 
     fn fmt<W: fmt::Write>(&self, f: &mut fmt::Formatter<W>) -> fmt::Result {
@@ -80,25 +71,51 @@ impl fmt::Display for Row<'_> as RowDisplay {
     }
 }
 
-/// Says that a message was sent, the `place`-th of all.
-pub fn sent(heap: Global, place: u64, row: &[u64]) -> Result<String, AllocError>
-    ensures { λ r. ⌜ made r (λ t. string-bytes t ≡ codes "sent " ++ (decimal place ++ rowText (now (row .entry)))) ⌝ }
-{
-    let row = Row(row);
-    format!(heap, "sent {place}{row}")
+/// A message that was sent, the `place`-th of all.
+#[derive(Clone, Copy)]
+pub struct Sent<'a> {
+    pub place: u64,
+    pub row: Row<'a>,
 }
 
-/// Says that an end hands a message on.
-pub fn hands_on(heap: Global, node: Node, row: &[u64]) -> Result<String, AllocError>
-    ensures { λ r. ⌜ made r (λ t. string-bytes t ≡ nameOf node ++ (codes " hands on" ++ rowText (now (row .entry)))) ⌝ }
-{
-    let row = Row(row);
-    format!(heap, "{node} hands on{row}")
+pub impl fmt::Display for Sent<'_> as SentDisplay {
+    ghost shown = { λ sent. Some (sentText (sent .place) (sent .row .0 .now)) };
+
+    fn fmt<W: fmt::Write>(&self, f: &mut fmt::Formatter<W>) -> fmt::Result {
+        let Sent { place, row } = *self;
+        write!(f, "sent {place}{row}")
+    }
 }
 
-/// What is wrong with line number `line` of the script.
-pub fn complaint(heap: Global, line: u64, fault: Malformed) -> Result<String, AllocError>
-    ensures { λ r. ⌜ made r (λ t. string-bytes t ≡ codes "line " ++ (decimal line ++ (codes ": " ++ faultText fault))) ⌝ }
-{
-    format!(heap, "line {line}: {fault}")
+/// A message that an end hands on.
+#[derive(Clone, Copy)]
+pub struct HandedOn<'a> {
+    pub node: Node,
+    pub row: Row<'a>,
+}
+
+pub impl fmt::Display for HandedOn<'_> as HandedOnDisplay {
+    ghost shown = { λ handed. Some (handedOnText (handed .node) (handed .row .0 .now)) };
+
+    fn fmt<W: fmt::Write>(&self, f: &mut fmt::Formatter<W>) -> fmt::Result {
+        let HandedOn { node, row } = *self;
+        let name = Name(node);
+        write!(f, "{name} hands on{row}")
+    }
+}
+
+/// What is wrong with a line of the script, by its number.
+#[derive(Clone, Copy)]
+pub struct Complaint {
+    pub line: u64,
+    pub fault: Malformed,
+}
+
+pub impl fmt::Display for Complaint as ComplaintDisplay {
+    ghost shown = { λ complaint. Some (complaintText (complaint .line) (faultText (complaint .fault))) };
+
+    fn fmt<W: fmt::Write>(&self, f: &mut fmt::Formatter<W>) -> fmt::Result {
+        let Complaint { line, fault } = *self;
+        write!(f, "line {line}: {fault}")
+    }
 }

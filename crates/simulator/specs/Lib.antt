@@ -1,2 +1,4 @@
-pub mod Step
+pub mod Model
 pub mod Play
+pub mod Answers
+pub mod Text

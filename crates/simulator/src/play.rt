@@ -1,97 +1,81 @@
-//! A line of the script, and what is printed for it.
+//! A command, played whole or not at all.
 ghost use mathlib.Core.Path.{_≡_};
+ghost use Prim.Native.Nat.{_<_};
+ghost use Rattle.std.specs.Of.Vec.{vec-len, vec-cap};
 ghost use Rattle.std.specs.declared.result.Result.the-variants.{Ok, Err};
-ghost use Rattle.std.specs.Of.String.{string-bytes};
-ghost use Rattle.std.specs.Vec.{made};
-ghost use Rattle.simulator.specs.Play.{Plays, complaintOf, printedOf, printsOf, printsFor, playsFor};
-use crate::simulator::Outcome;
+ghost use Rattle.promise.specs.Reach.{Kept};
+ghost use Rattle.simulator.specs.Model.{worldOf};
+ghost use Rattle.simulator.specs.Play.{Plays, maySay, overfull};
+use crate::network::Network;
+use crate::row::Played;
+use crate::row::Unplayed;
 use crate::simulator::Simulator;
-use frame::ROW;
-use script::command::Command;
-use script::command::parse;
-use script::text::complaint;
-use script::text::sent;
-use std::alloc::AllocError;
-use std::alloc::Global;
+use script::Command;
 
-/// What is printed for a line.
-#[derive(Drop)]
-pub enum Answer {
-    Nothing,
-    /// A line on standard output.
-    Line(String),
-    /// A line on standard error: nothing was played.
-    Complaint(String),
-    /// `full`, and the play ends.
-    Full,
+/// The most messages that are sent.
+const MESSAGES: usize = 10_000;
+
+impl Network {
+    /// Whether something may be said for the command.
+    fn may_say(&self, command: Command) -> bool
+        ensures { λ r. ⌜ r ≡ maySay command (worldOf (now (self .entry))) ⌝ }
+    {
+        match command {
+            Command::Rotate { .. } | Command::ForgetGate { .. } | Command::ForgetHand { .. } => {
+                false
+            }
+            Command::Hear { hand: _, place } => {
+                place < self.sent.len() as u64 && self.sent[place as usize].row.is_answered()
+            }
+            Command::Invite { .. }
+            | Command::Send { .. }
+            | Command::Broadcast { .. }
+            | Command::Rekey { .. }
+            | Command::SendUp { .. }
+            | Command::Begin { .. } => true,
+        }
+    }
+
+    fn is_full_for(&self, command: Command) -> bool
+        ensures { λ r. ⌜ r ≡ overfull command (worldOf (now (self .entry))) ⌝ }
+    {
+        self.sent.len() >= MESSAGES && self.may_say(command)
+    }
+
+    /// Room for one message more, sent and delivered.
+    fn make_room(&mut self) -> Result<(), Unplayed>
+        ensures world { λ _. ⌜ worldOf (now (self .exit)) ≡ worldOf (now (self .entry)) ⌝ }
+        ensures room { λ r. ⌜ elim r [ Ok _ ↦ (vec-len (now (self .exit) .sent) < vec-cap (now (self .exit) .sent)) × (vec-len (now (self .exit) .delivered) < vec-cap (now (self .exit) .delivered)) | Err e ↦ e ≡ Unplayed.NoMemory ] ⌝ }
+    {
+        if self.sent.reserve(1).is_err() || self.delivered.reserve(1).is_err() {
+            return Err(Unplayed::NoMemory);
+        }
+        Ok(())
+    }
+
+    /// Room first, then the step, so that where memory is wanting nothing has moved.
+    pub(crate) fn play(&mut self, command: Command) -> Result<Played, Unplayed>
+        ensures { λ r. ⌜ Plays r command (worldOf (now (self .entry))) (worldOf (now (self .exit))) ⌝ }
+    {
+        if self.is_full_for(command) {
+            return Err(Unplayed::Full);
+        }
+        match self.make_room() {
+            Err(e) => Err(e),
+            Ok(()) => match self.step(command) {
+                Some(played) => Ok(played),
+                None => Err(Unplayed::Absent),
+            },
+        }
+    }
 }
 
 impl Simulator {
-    /// Plays the line with this number. Where memory is wanting nothing has moved.
-    pub fn play(&mut self, heap: Global, number: u64, line: &[u8]) -> Result<Answer, AllocError>
-        ensures { λ r. ⌜ Plays number (now (line .entry)) (now (self .entry)) (now (self .exit)) r ⌝ }
+    /// Plays a command, and answers exactly what was sent and delivered for it.
+    pub fn play(&mut self, command: Command) -> Result<Played, Unplayed>
+        ensures plays { λ r. ⌜ Plays r command (worldOf (now (self .entry) .network)) (worldOf (now (self .exit) .network)) ⌝ }
+        ensures kept { λ _. ⌜ Kept (worldOf (now (self .exit) .network)) ⌝ }
     {
-        match parse(line) {
-            Ok(None) => Ok(Answer::Nothing),
-            Ok(Some(command)) => self.obey(heap, number, command),
-            Err(fault) => {
-                let text = complaint(heap, number, fault)?;
-                Ok(Answer::Complaint(text))
-            }
-        }
+        self.network.play(command)
     }
-
-    fn obey(&mut self, heap: Global, number: u64, command: Command) -> Result<Answer, AllocError>
-        ensures { λ r. ⌜ elim r [ Ok a ↦ (printedOf a ≡ printsFor number command (now (self .entry))) × (now (self .exit) ≡ playsFor command (now (self .entry))) | Err e ↦ now (self .exit) ≡ now (self .entry) ] ⌝ }
-    {
-        match command {
-            Command::Invite { gate, hand } => {
-                let mut next = *self;
-                let outcome = next.invite(gate, hand);
-                let answer = outcome.print(heap, number)?;
-                *self = next;
-                Ok(answer)
-            }
-            Command::Send { .. }
-            | Command::Broadcast { .. }
-            | Command::Rotate { .. }
-            | Command::Rekey { .. }
-            | Command::ForgetGate { .. }
-            | Command::SendUp { .. }
-            | Command::ForgetHand { .. }
-            | Command::Hear { .. }
-            | Command::Begin { .. } => {
-                let text = told(heap, number, "not played yet")?;
-                Ok(Answer::Complaint(text))
-            }
-        }
-    }
-}
-
-impl Outcome {
-    fn print(self, heap: Global, number: u64) -> Result<Answer, AllocError>
-        ensures { λ r. ⌜ elim r [ Ok a ↦ printedOf a ≡ printsOf number self | Err e ↦ Unit {0} ] ⌝ }
-    {
-        match self {
-            Outcome::Absent => {
-                let text = told(heap, number, "no such gate or handheld")?;
-                Ok(Answer::Complaint(text))
-            }
-            Outcome::Full => Ok(Answer::Full),
-            Outcome::Quiet => Ok(Answer::Nothing),
-            Outcome::Sent { place, message } => {
-                let mut row = [0; ROW];
-                let len = message.write(&mut row) as usize;
-                let text = sent(heap, place, &row[0..len])?;
-                Ok(Answer::Line(text))
-            }
-        }
-    }
-}
-
-/// Why the line with this number was not played.
-fn told(heap: Global, number: u64, reason: &str) -> Result<String, AllocError>
-    ensures { λ r. ⌜ made r (λ t. string-bytes t ≡ complaintOf number (now (reason .entry))) ⌝ }
-{
-    format!(heap, "line {number}: {reason}")
 }

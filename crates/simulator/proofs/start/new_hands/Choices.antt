@@ -1,0 +1,10 @@
+use mathlib.Core.Path.{_≡_}
+use mathlib.Core.List.{map}
+use lib.ListN.{replicate}
+use Rattle.std.specs.Of.Vec.{vec-items, vec-len}
+use Rattle.protocol.specs.Held.{newHand}
+use Rattle.handset.specs.State.{stateOf}
+use Rattle.simulator.proofs.start.new_hands.Given as given
+
+abbrev pub Inv-loop-i : given.InvT-loop-i
+Inv-loop-i l = (map stateOf (vec-items (l .ends)) ≡ replicate (l .i) (newHand (l .gates))) × (vec-len (l .ends) ≡ l .i)
