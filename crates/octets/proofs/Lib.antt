@@ -1,0 +1,4 @@
+pub mod Low
+pub mod Cuts
+pub mod Fields
+pub mod RoundTrip
