@@ -47,6 +47,12 @@ def proof_text(text, names):
     return "\n".join(lines)
 
 
+def source_text(text, names):
+    """Clauses and imports of ghost names have words with dashes too; code has none."""
+    ghost = ("ghost ", "ensures", "requires")
+    return "\n".join(respell(line, names, not line.strip().startswith(ghost)) for line in text.split("\n"))
+
+
 def quoted(text, names):
     return re.sub(r"`[^`\n]*`", lambda m: respell(m.group(0), names, False), text)
 
@@ -73,7 +79,9 @@ def main(argv):
             path = os.path.join(folder, name)
             if name.endswith(".antt"):
                 count += turn(path, lambda t: proof_text(t, names))
-            elif name.endswith((".rt", ".edit")):
+            elif name.endswith(".rt"):
+                count += turn(path, lambda t: source_text(t, names))
+            elif name.endswith(".edit"):
                 count += turn(path, lambda t: respell(t, names, True))
     docs = [os.path.join(root, "README.md")]
     docs += [os.path.join(root, "docs", d) for d in sorted(os.listdir(os.path.join(root, "docs"))) if d.endswith(".md") and not d.startswith("PORT")]

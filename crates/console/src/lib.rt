@@ -1,5 +1,7 @@
 //! The lines of the programs `hand` and `gate`, read and written.
 
+#![tactic(auto)]
+
 mod answer;
 mod command;
 mod delivery;

@@ -1,4 +1,7 @@
 //! Plays a script of gates and handhelds: reads a line, plays it, prints the answer.
+
+#![tactic(auto)]
+
 use anyhow::anyhow;
 use script::line::number;
 use simulator::{Answer, Simulator};

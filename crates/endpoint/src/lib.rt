@@ -1,5 +1,7 @@
 //! One end of a pairwise key: its offer, its key, its counters, and the rules that both kinds of end share.
 
+#![tactic(auto)]
+
 mod call;
 mod counters;
 mod effect;

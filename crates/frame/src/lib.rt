@@ -1,5 +1,7 @@
 //! Messages as rows of numbers: what is said over the air before it is sealed into bytes.
 
+#![tactic(auto)]
+
 mod laws;
 mod message;
 mod row;

@@ -1,5 +1,7 @@
 //! A gate: what it does with rows of numbers and of itself.
 
+#![tactic(auto)]
+
 mod calls;
 mod gateway;
 mod input;

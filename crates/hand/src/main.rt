@@ -1,4 +1,7 @@
 //! A handheld: lines on standard input tell it what it hears and does, and it answers on standard output.
+
+#![tactic(auto)]
+
 use anyhow::anyhow;
 use console::Answer;
 use sealing::FileVault;

@@ -1,5 +1,7 @@
 //! A handheld over bytes: what it does with any bytes, and of itself.
 
+#![tactic(auto)]
+
 mod acting;
 mod hearing;
 mod held;

@@ -1,5 +1,7 @@
 //! A handheld: what it does with rows of numbers and of itself.
 
+#![tactic(auto)]
+
 mod calls;
 mod hand;
 mod handset;

@@ -1,7 +1,10 @@
 //! Keccak-f[1600], the permutation of FIPS 202 (section 3).
+
+#![tactic(auto)]
+
 ghost use Rattle.std.specs.Prelude.{◌≡◌, ◌<◌, slice_index};
-ghost use Rattle.keccak.specs.Permutation.{constants, keccak-f};
-ghost use Rattle.keccak.specs.Tables.{Tables-follow};
+ghost use Rattle.keccak.specs.Permutation.{constants, keccak_f_lem};
+ghost use Rattle.keccak.specs.Tables.{TablesFollow};
 
 mod steps;
 
@@ -44,7 +47,7 @@ fn round_constant(i: usize) -> u64
 
 /// The permutation, in place.
 pub fn keccak_f(state: &mut State)
-    ensures { state.new ≡ keccak-f state.old }
+    ensures { state.new ≡ keccak_f_lem state.old }
 {
     let mut lanes = *state;
     for i in 0..12 {
@@ -58,5 +61,5 @@ pub fn keccak_f(state: &mut State)
 
 /// A theorem: the definition's two tables are what the standard's algorithms give.
 pub fn tables_follow()
-    ensures { Tables-follow }
+    ensures { TablesFollow }
 {}

@@ -1,6 +1,9 @@
 //! Prints SHAKE256 of many messages, whole and in parts; each is a prefix of one message, and a digest of 16 bytes
 //! stands for a longer answer. The file `stdout` has what another implementation gives: tools/shake256_vectors.py
 //! makes it.
+
+#![tactic(auto)]
+
 ghost use Rattle.std.specs.Prelude.{◌≡◌, ◌≤◌, length};
 ghost use Rattle.sponge.specs.Sponge.{shake256 as SHAKE256};
 

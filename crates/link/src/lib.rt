@@ -1,6 +1,8 @@
 //! Both ends over bytes, and the world of bytes: what each end holds beside the rules' numbers, and what both kinds share.
 //! The definitions are in specs/: Keys, Hands, Gates, World, Theorems.
 
+#![tactic(auto)]
+
 mod keys;
 mod lookup;
 mod opening;

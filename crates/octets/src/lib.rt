@@ -1,5 +1,7 @@
 //! Messages as bytes: one layout for each kind, cut and written.
 
+#![tactic(auto)]
+
 mod buffer;
 mod cut;
 mod laws;

@@ -1,4 +1,7 @@
 //! Plays scripts one after the other, each begun by a line `== NAME GATES HANDS`.
+
+#![tactic(auto)]
+
 use anyhow::anyhow;
 use script::line::number;
 use simulator::{Answer, Simulator};

@@ -1,5 +1,8 @@
 //! That what is promised holds, of every world that can be reached: one function for each promise, whose contract is
 //! that promise, and one for them all.
+
+#![tactic(auto)]
+
 ghost use Rattle.protocol.specs.Promise.{Always, DrawnOnce, InstalledOnce, NeverTwice, OwnWords, Delivered, BroadcastOnce, OneKey, WayOn, WayOpen, Main};
 ghost use Rattle.protocol.specs.World.{World};
 ghost use Rattle.promise.specs.Reach.{Reached, Kept};

@@ -1,5 +1,8 @@
 //! What each end holds and does, the world of all ends, and what is promised of it. The definitions are in specs/:
 //! Held, Rules, Calls, World, Promise, and Cases, a table of worked examples.
+
+#![tactic(auto)]
+
 ghost use Rattle.protocol.specs.Rules.{NoReplay};
 ghost use Rattle.protocol.specs.Calls.{RefusedIsQuiet};
 ghost use Rattle.protocol.specs.Cases.{CasesHold};

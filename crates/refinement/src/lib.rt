@@ -1,4 +1,7 @@
 //! That what holds of rows holds of bytes: one function for each theorem, whose contract is that theorem.
+
+#![tactic(auto)]
+
 ghost use Rattle.link.specs.Theorems.{NothingWithoutKey, RefusedBytesAreQuiet, Refines, InstalledOnceBytes, StreamsOnce, WayOnBytes};
 ghost use Rattle.refinement.specs.Kept.{EachEventRefines, KeptBytes};
 

@@ -1,3 +1,5 @@
+#![tactic(auto)]
+
 // The script of a radio network, read line by line, and the lines that answer it.
 pub mod command;
 pub mod laws;

@@ -1,5 +1,7 @@
 //! What an end draws on, and what it makes of it: keys, tags and keystreams.
 
+#![tactic(auto)]
+
 mod bytes;
 mod file;
 mod keys;

@@ -1,4 +1,7 @@
 //! A load sealed and opened for C, as benchmarks/frame calls it: a slice is a pointer and then a length.
+
+#![tactic(auto)]
+
 ghost use Rattle.std.specs.Prelude.{◌≡◌, ◌≤◌, length, take, replicate, if◌then◌else◌};
 ghost use Rattle.sponge.specs.Sponge.{shake256 as SHAKE256};
 ghost use Rattle.sealing.specs.Seal.{octets_sealed, same_bytes, tag_of, opened_body};

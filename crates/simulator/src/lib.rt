@@ -1,5 +1,7 @@
 //! Ends of both kinds and the air between, played line by line.
 
+#![tactic(auto)]
+
 mod answer;
 mod calls;
 mod commands;

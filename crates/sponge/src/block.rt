@@ -1,6 +1,6 @@
 //! Blocks of `RATE` bytes: how one enters the state, how the last is padded, and how one is read from the state.
 ghost use Rattle.std.specs.Prelude.{◌≡◌, ◌+◌, ◌<◌, ◌≤◌, length};
-ghost use Rattle.keccak.specs.Permutation.{keccak-f};
+ghost use Rattle.keccak.specs.Permutation.{keccak_f_lem};
 ghost use Rattle.sponge.specs.Sponge.{from_bytes, xor_block, absorb_block, delimited, shake_suffix, padded, trunc, squeezed};
 
 use keccak::{State, keccak_f};
@@ -102,7 +102,7 @@ fn read(lanes: &State) -> Block
 /// A block of output, after which the state is the next block's.
 fn next_block(lanes: &mut State) -> Block
     ensures block { result ≡ trunc 17 lanes.old }
-    ensures after { lanes.new ≡ keccak-f lanes.old }
+    ensures after { lanes.new ≡ keccak_f_lem lanes.old }
 {
     let block = read(lanes);
     keccak_f(lanes);

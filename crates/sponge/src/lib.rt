@@ -1,6 +1,9 @@
 //! SHAKE256 (FIPS 202, sections 4 to 6), of a whole message or of parts that come one after the other.
+
+#![tactic(auto)]
+
 ghost use Rattle.std.specs.Prelude.{◌≡◌, ◌++◌, length};
-ghost use Rattle.sponge.specs.Padding.{Padding-follows};
+ghost use Rattle.sponge.specs.Padding.{PaddingFollows};
 ghost use Rattle.sponge.specs.Sponge.{shake256 as SHAKE256};
 
 mod block;
@@ -30,5 +33,5 @@ pub fn shake256_parts3(label: &[u8], key: &[u8], bytes: &[u8], out: &mut [u8])
 
 /// A theorem: the padding in bytes is the standard's, in bits.
 pub fn padding_follows()
-    ensures { Padding-follows }
+    ensures { PaddingFollows }
 {}

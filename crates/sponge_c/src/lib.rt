@@ -1,4 +1,7 @@
 //! SHAKE256 for C, as benchmarks/shake256 calls it: a slice is a pointer and then a length.
+
+#![tactic(auto)]
+
 ghost use Rattle.std.specs.Prelude.{◌≡◌, ◌++◌, length};
 ghost use Rattle.sponge.specs.Sponge.{shake256 as SHAKE256};
 

@@ -1,5 +1,7 @@
 //! How the programs are called: their arguments, what is told of wrong ones, and their help.
 
+#![tactic(auto)]
+
 mod arguments;
 mod text;
 

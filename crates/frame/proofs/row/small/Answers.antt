@@ -8,13 +8,13 @@ next : (xs : List ℕ) (i : ℕ) (b : Bool) → i < length xs → b ≡ ltb (get
 unfolding is_small
 next xs i b h e = at_drop_more is_small xs i 0 h ∙ ap (λ (t : Bool). t && is_small (drop (i + 1) xs)) (sym e)
 
-pub returns-then-not-is-small : goal.returns-then-not-is-small
-returns-then-not-is-small c =
-    (c.loop-number.invariant ∙ next c.args.row.now c.loop-number.number-index _ c.loop-number-test.true c.if-not-is-small.ensures, refl)
+pub returns-then-not-is_small : goal.returns-then-not-is_small
+returns-then-not-is_small c =
+    (c.loop-number.invariant ∙ next c.args.row.now c.loop-number.number-index _ c.loop-number-test.true c.if-not-is_small.ensures, refl)
 
 pub loop-number-preserved : goal.loop-number-preserved
 loop-number-preserved c =
-    c.loop-number.invariant ∙ next c.args.row.now c.loop-number.number-index _ c.loop-number-test.true c.if-not-is-small.ensures
+    c.loop-number.invariant ∙ next c.args.row.now c.loop-number.number-index _ c.loop-number-test.true c.if-not-is_small.ensures
 
 pub returns : goal.returns
 unfolding is_small

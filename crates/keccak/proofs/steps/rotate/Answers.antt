@@ -3,4 +3,4 @@ use Rattle.keccak.proofs.steps.rotate.Goals as goal
 
 pub returns : goal.returns
 unfolding rotl
-returns c = c.rotate-left.ensures
+returns c = c.rotate_left.ensures

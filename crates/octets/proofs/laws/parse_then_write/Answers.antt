@@ -8,10 +8,10 @@ use Rattle.octets.proofs.laws.parse_then_write.Goals as goal
 
 pub returns : goal.returns
 returns c =
-    let cut = c.in-ok-cut.cut in
-    let parsed = c.in-ok-cut.ensures in
-    let read = c.in-ok-message.ensures in
-    let same : code c.in-ok-message.message ≡ row_of cut = ap code read.1 ∙ code-message_of (row_of cut) read.0 in
-    c.write-tagged.ensures
+    let cut = c.in_ok-cut.cut in
+    let parsed = c.in_ok-cut.ensures in
+    let read = c.in_ok-message.ensures in
+    let same : code c.in_ok-message.message ≡ row_of cut = ap code read.1 ∙ code-message_of (row_of cut) read.0 in
+    c.write_tagged.ensures
     ∙ ap (λ (row : List ℕ). octets_of_row row cut.a cut.b cut.body cut.key cut.tag) same
-    ∙ cut_is_written c.args.bytes.now cut (λ i. omega (arith, c.type-inv.bytes i)) (sym parsed.parts)
+    ∙ cut_is_written c.args.bytes.now cut (λ i. omega (arith, c.type_inv.bytes i)) (sym parsed.parts)

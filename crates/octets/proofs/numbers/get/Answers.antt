@@ -11,6 +11,6 @@ loop-i-preserved c =
     let e : i ≡ suc (i - 1) = omega arith in
     let near : i - 1 < 8 = omega arith in
     let there = get_or-take 8 c.args.bytes.now (i - 1) 0 near in
-    let more = get_more bs (i - 1) c.loop-i.n (omega arith) (omega arith) (bytes_taken 8 c.args.bytes.now (λ k. omega (arith, c.type-inv.bytes k)))
+    let more = get_more bs (i - 1) c.loop-i.n (omega arith) (omega arith) (bytes_taken 8 c.args.bytes.now (λ k. omega (arith, c.type_inv.bytes k)))
     (c.loop-i.invariant ∙ ap (λ (k : ℕ). from_low (drop k bs)) e) in
     rw there at more

@@ -7,4 +7,4 @@ pub returns : goal.returns
 returns c = λ few long.
     let bs = c.args.bytes.now in
     let read = c.get.ensures ∙ ap from_low (take_all 8 bs few) in
-    c.put.ensures ∙ (λ i. low_first (long i) (read i)) ∙ back bs (λ k. omega (arith, c.type-inv.bytes k))
+    c.put.ensures ∙ (λ i. low_first (long i) (read i)) ∙ back bs (λ k. omega (arith, c.type_inv.bytes k))

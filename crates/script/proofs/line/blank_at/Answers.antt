@@ -9,5 +9,5 @@ returns-in-32 c = grind (arith, nat_tests, blank_here c.args.line.now c.args.i c
 pub returns-in-13 : goal.returns-in-13
 returns-in-13 c = grind (arith, nat_tests, blank_here c.args.line.now c.args.i c.requires)
 
-pub returns-in-default : goal.returns-in-default
-returns-in-default c = grind (arith, nat_tests, blank_here c.args.line.now c.args.i c.requires)
+pub returns-in_default : goal.returns-in_default
+returns-in_default c = grind (arith, nat_tests, blank_here c.args.line.now c.args.i c.requires)

@@ -7,10 +7,10 @@ pub loop-n-init : goal.loop-n-init
 loop-n-init g c = record { long = length-replicate g.row.N 0; read = refl }
 
 pub loop-n-preserved : goal.loop-n-preserved
-loop-n-preserved g c = one_number c.loop-n.invariant c.loop-n-test.true _ _ c.in-ok-next.ensures
+loop-n-preserved g c = one_number c.loop-n.invariant c.loop-n-test.true _ _ c.in_ok-next.ensures
 
-pub returns-in-err-next : goal.returns-in-err-next
-returns-in-err-next g c = rw c.from-residual.ensures (too_few c.loop-n.invariant c.loop-n-test.true c.in-err-next.ensures)
+pub returns-in_err-next : goal.returns-in_err-next
+returns-in_err-next g c = rw c.from_residual.ensures (too_few c.loop-n.invariant c.loop-n-test.true c.in_err-next.ensures)
 
 pub returns-in-Some : goal.returns-in-Some
 returns-in-Some g c = too_many c.loop-n.invariant c.loop-n.auto.n-index-end c.loop-n-test.false _ c.in-Some.field-0.1.now c.in-Some.ensures.0

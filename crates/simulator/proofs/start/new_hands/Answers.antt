@@ -10,7 +10,7 @@ loop-i-init c = (ap (λ (v : List Handset). map state_of v) c.new-ends.ensures.i
 
 pub loop-i-preserved : goal.loop-i-preserved
 loop-i-preserved c = (
-  ap (λ (v : List Handset). map state_of v) c.in-ok-push.ensures.items ∙ map_push state_of (vec_items c.loop-i.ends) c.fresh.result
+  ap (λ (v : List Handset). map state_of v) c.in_ok-push.ensures.items ∙ map_push state_of (vec_items c.loop-i.ends) c.fresh.result
       ∙ (λ i. c.loop-i.invariant.0 i ++ c.fresh.ensures i ∷ []) ∙ replicate_more c.loop-i.i (new_hand c.args.gates),
-  c.in-ok-push.ensures.len ∙ ap (λ (n : ℕ). n + 1) c.loop-i.invariant.1,
+  c.in_ok-push.ensures.len ∙ ap (λ (n : ℕ). n + 1) c.loop-i.invariant.1,
 )

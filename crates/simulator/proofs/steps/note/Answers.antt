@@ -8,7 +8,7 @@ use Rattle.simulator.proofs.steps.note.Goals as goal
 pub returns : goal.returns
 returns c =
     let es = entries c.args.lines.now in
-    let pushed = ap (λ (xs : List Line). reverse (map entry_of xs)) c.push-reserved.ensures.items ∙ entries_push (vec_items c.args.lines.now) _ in
+    let pushed = ap (λ (xs : List Line). reverse (map entry_of xs)) c.push_reserved.ensures.items ∙ entries_push (vec_items c.args.lines.now) _ in
     record {
       tells = pushed;
       puts = pushed ∙ sym (ap (λ (b : Bool). cond b es (record { node = c.args.node; message = message_of c.args.numbers.now } ∷ es)) (ne_eqb c.args.len 0 c.if-len-eq0.false));

@@ -5,4 +5,4 @@ use Rattle.sponge.proofs.block.absorb.Goals as goal
 
 pub returns : goal.returns
 unfolding absorb_block
-returns c = c.keccak-f.ensures ∙ ap keccak_f_lem c.xor-mixed.ensures
+returns c = c.keccak_f.ensures ∙ ap keccak_f_lem c.xor-mixed.ensures

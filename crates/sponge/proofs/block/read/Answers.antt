@@ -12,11 +12,11 @@ pub loop-i-preserved : goal.loop-i-preserved
 unfolding trunc
 loop-i-preserved c =
     let a : 8 * c.loop-i.i ≤ length c.loop-i.block = omega (arith, c.loop-i.invariant.0) in
-    let y : c.copy-from-slice.new.self ≡ to_bytes (get_or c.args.lanes.now c.loop-i.i 0) = c.copy-from-slice.ensures.after ∙ c.to-le-bytes-bytes.ensures in
-    let l : 8 * (c.loop-i.i + 1) ≡ 8 * c.loop-i.i + length c.copy-from-slice.new.self = omega (arith, ap length y) in (
+    let y : c.copy_from_slice.new.self ≡ to_bytes (get_or c.args.lanes.now c.loop-i.i 0) = c.copy_from_slice.ensures.after ∙ c.to_le_bytes-bytes.ensures in
+    let l : 8 * (c.loop-i.i + 1) ≡ 8 * c.loop-i.i + length c.copy_from_slice.new.self = omega (arith, ap length y) in (
       search (rules, places),
-      take-put_mid (8 * c.loop-i.i) _ c.loop-i.block c.copy-from-slice.new.self (8 * (c.loop-i.i + 1)) l a
-          ∙ ap (λ z. z ++ c.copy-from-slice.new.self) c.loop-i.invariant.1
+      take-put_mid (8 * c.loop-i.i) _ c.loop-i.block c.copy_from_slice.new.self (8 * (c.loop-i.i + 1)) l a
+          ∙ ap (λ z. z ++ c.copy_from_slice.new.self) c.loop-i.invariant.1
           ∙ ap (λ z. trunc c.loop-i.i c.args.lanes.now ++ z) y
           ∙ ap (λ n. trunc n c.args.lanes.now) (sym (add-one c.loop-i.i)),
     )

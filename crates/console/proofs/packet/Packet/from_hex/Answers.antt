@@ -5,10 +5,10 @@ use Rattle.console.specs.Packets.{bytes_in}
 use Rattle.console.proofs.Digits.{odd, too_long, none_read, no_digit, one_byte, all_bytes}
 use Rattle.console.proofs.packet.Packet.from_hex.Goals as goal
 
-pub returns-in-err-len : goal.returns-in-err-len
-returns-in-err-len c =
-    ap (option_map bytes_in) c.from-residual.ensures
-    ∙ elim c.in-err-len.ensures [
+pub returns-in_err-len : goal.returns-in_err-len
+returns-in_err-len c =
+    ap (option_map bytes_in) c.from_residual.ensures
+    ∙ elim c.in_err-len.ensures [
       | inl h ↦ sym (ap of_message (odd c.args.digits.now h))
       | inr h ↦ sym (too_long c.args.digits.now h)
     ]
@@ -16,17 +16,17 @@ returns-in-err-len c =
 pub loop-i-init : goal.loop-i-init
 loop-i-init c = none_read c.args.digits.now _ refl
 
-pub returns-in-err-bytes : goal.returns-in-err-bytes
-returns-in-err-bytes c =
-    let fit = c.in-ok-len.ensures in
-    ap (option_map bytes_in) c.from-residual-in-err-bytes.ensures ∙ sym (no_digit c.loop-i.invariant (omega arith) c.in-err-bytes.ensures)
+pub returns-in_err-bytes : goal.returns-in_err-bytes
+returns-in_err-bytes c =
+    let fit = c.in_ok-len.ensures in
+    ap (option_map bytes_in) c.from_residual-in_err-bytes.ensures ∙ sym (no_digit c.loop-i.invariant (omega arith) c.in_err-bytes.ensures)
 
 pub loop-i-preserved : goal.loop-i-preserved
 loop-i-preserved c =
-    let fit = c.in-ok-len.ensures in
-    one_byte c.loop-i.invariant c.in-ok-bytes.field-0 (omega arith) (omega arith) c.in-ok-bytes.ensures
+    let fit = c.in_ok-len.ensures in
+    one_byte c.loop-i.invariant c.in_ok-bytes.field-0 (omega arith) (omega arith) c.in_ok-bytes.ensures
 
 pub returns : goal.returns
 returns c =
-    let fit = c.in-ok-len.ensures in
-    all_bytes c.loop-i.invariant c.in-ok-len.len (omega arith) fit.1 fit.0
+    let fit = c.in_ok-len.ensures in
+    all_bytes c.loop-i.invariant c.in_ok-len.len (omega arith) fit.1 fit.0

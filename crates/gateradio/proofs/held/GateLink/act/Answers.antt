@@ -17,7 +17,7 @@ returns-in-Rotate g c =
     let l = c.args.self.now in
     let v = g.V.Vault.holds c.args.vault.now in
     let i = c.args.g in
-    c.do-regrouping-act.ensures
+    c.do_regrouping_act.ensures
     ∙ ap (λ (a : GateAct). answer_of v.hash (gate_by_act i a (held_in l) (regrouped v i a (held_in l) (ring_of l).peers))) c.in-Rotate.is
     ∙ rotated v i (held_in l) (ring_of l)
     ∙ ap (λ (a : GateAct). answer_of v.hash (gate_acts_bytes v i a (held_in l) (ring_of l))) (sym c.in-Rotate.is)
@@ -35,7 +35,7 @@ returns-in-SendDown g c =
     let v = g.V.Vault.holds c.args.vault.now in
     let i = c.args.g in
     let of : GateAct → Type 0 = Done v i (held_in l) (ring_of l) in
-    c.do-act.ensures
+    c.do_act.ensures
     ∙ elim c.in-SendDown.is [
       | inl d ↦ subst of (sym d.2) (sent_down v i (held_in l) (ring_of l) d.0 d.1)
       | inr k ↦ elim k [

@@ -12,6 +12,6 @@ returns g c =
     let l = c.args.self.now in
     let v = g.V.Vault.holds c.args.vault.now in
     let wiped = c.wipe.new.self in
-    c.do-regrouping-act.ensures
+    c.do_regrouping_act.ensures
     ∙ ap (λ (e : Gateway). answer_of v.hash (gate_by_act c.args.g ForgetGate (state_of e) (regrouped v c.args.g ForgetGate (state_of e) (ring_of wiped).peers))) c.wipe.ensures.same
     ∙ ap (λ (r : GateRing). answer_of v.hash (gate_by_act c.args.g ForgetGate (held_in l) (regrouped v c.args.g ForgetGate (held_in l) r.peers))) c.wipe.ensures.keys

@@ -22,7 +22,7 @@ returns-in-Some g c =
     let v = g.V.Vault.holds c.args.vault.now in
     let drawn = c.in-Some.ensures in
     let open' = c.open.new.self in
-    c.do-act.ensures
+    c.do_act.ensures
     ∙ ap (λ (e : Gateway). answer_of v.hash (gate_by_act c.args.g (Invite c.args.hand) (state_of e) (ring_of open'))) c.open.ensures.same
     ∙ invited v c.args.g (held_in l) (ring_of l) c.args.hand (ring_of open') drawn.0
     (c.open.ensures.keys ∙ ap (λ (a : List ℕ). with_hand_keys c.args.hand (invited_keys a (hand_keys c.args.hand (ring_of l))) (ring_of l)) drawn.1)

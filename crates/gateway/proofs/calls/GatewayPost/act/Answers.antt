@@ -11,6 +11,6 @@ unfolding gate_acting
 returns c =
     let a = gate_act_of c.args.kind c.args.s c.args.body in
     let y = state_of c.args.self.now in
-    acted (state_of c.do-act-effect.new.self) (gate_does c.args.g c.args.stations a y) c.do-act-effect.result c.write.result c.write.new.out
-    (c.do-act-effect.ensures ∙ ap (λ (b : GateAct). gate_does c.args.g c.args.stations b y) c.act-of.ensures)
+    acted (state_of c.do_act-effect.new.self) (gate_does c.args.g c.args.stations a y) c.do_act-effect.result c.write.result c.write.new.out
+    (c.do_act-effect.ensures ∙ ap (λ (b : GateAct). gate_does c.args.g c.args.stations b y) c.act_of.ensures)
     (gate_delivers_nothing c.args.g c.args.stations a y) c.write.ensures.len c.write.ensures.row

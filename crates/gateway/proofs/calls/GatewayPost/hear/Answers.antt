@@ -9,7 +9,7 @@ unfolding gate_hearing
 returns-in-Err c =
     let row = c.args.message.now in
     let y = state_of c.args.self.now in
-    refused (gate_verdict c.args.g c.args.s row c.args.genuine y) c.in-Err.refusal (state_of c.hear-row.new.self) (gate_hears_row c.args.g c.args.s row c.args.genuine y) c.number-code.result
+    refused (gate_verdict c.args.g c.args.s row c.args.genuine y) c.in-Err.refusal (state_of c.hear_row.new.self) (gate_hears_row c.args.g c.args.s row c.args.genuine y) c.number-code.result
     c.in-Err.ensures.0 c.in-Err.ensures.1 c.number-code.ensures
 
 pub returns-in-Ok : goal.returns-in-Ok
@@ -17,7 +17,7 @@ unfolding gate_hearing
 returns-in-Ok c =
     let row = c.args.message.now in
     let y = state_of c.args.self.now in
-    heard (gate_verdict c.args.g c.args.s row c.args.genuine y) (state_of c.hear-row.new.self) (gate_hears_row c.args.g c.args.s row c.args.genuine y)
+    heard (gate_verdict c.args.g c.args.s row c.args.genuine y) (state_of c.hear_row.new.self) (gate_hears_row c.args.g c.args.s row c.args.genuine y)
     c.in-Ok.effect c.write-said.result c.write-delivered.result c.write-said.new.out c.write-delivered.new.out
     c.in-Ok.ensures.0 c.in-Ok.ensures.1
     c.write-said.ensures.len c.write-delivered.ensures.len c.write-said.ensures.row c.write-delivered.ensures.row

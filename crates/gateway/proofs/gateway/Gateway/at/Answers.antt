@@ -11,8 +11,8 @@ use Rattle.gateway.proofs.gateway.Gateway.at.Goals as goal
 pub step-requires : goal.step-requires
 step-requires c = record { bounded = all_at is_bounded_peer c.args.self.now.peers c.args.hand _ c.args.self.now.bounded (omega arith); small = c.requires }
 
-pub invariant-of-self : goal.invariant-of-self
-invariant-of-self c = (c.args.self.now.few, (rw length-set c.args.self.now.whole, (all_set is_bounded_peer c.args.self.now.peers c.args.hand c.step.new.peer c.args.self.now.bounded c.step.ensures.bounded, tt)))
+pub invariant_of-self : goal.invariant_of-self
+invariant_of-self c = (c.args.self.now.few, (rw length-set c.args.self.now.whole, (all_set is_bounded_peer c.args.self.now.peers c.args.hand c.step.new.peer c.args.self.now.bounded c.step.ensures.bounded, tt)))
 
 pub returns : goal.returns
 returns c =

@@ -7,8 +7,8 @@ use Rattle.endpoint.proofs.Tables.{all_new}
 use Rattle.gateway.specs.Peers.{is_bounded_peer}
 use Rattle.gateway.proofs.gateway.Gateway.new.Goals as goal
 
-pub invariant-of-result : goal.invariant-of-result
-invariant-of-result c = (c.requires, (rw length-replicate refl, (all_new is_bounded_peer 512 _ refl, tt)))
+pub invariant_of-result : goal.invariant_of-result
+invariant_of-result c = (c.requires, (rw length-replicate refl, (all_new is_bounded_peer 512 _ refl, tt)))
 
 pub returns : goal.returns
 returns c =

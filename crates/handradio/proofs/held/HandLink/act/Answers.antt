@@ -10,7 +10,7 @@ unfolding hand_acts_bytes
 returns-in-SendUp g c =
     let l = c.args.self.now in
     let H = (g.V.Vault.holds c.args.vault.now).hash in
-    c.do-act.ensures ∙ ap (λ (a : HandAct). answer_of H (hand_by_act c.args.act (held_in l) (hand_keys_acted a (ring_of l)))) (sym c.in-SendUp.is)
+    c.do_act.ensures ∙ ap (λ (a : HandAct). answer_of H (hand_by_act c.args.act (held_in l) (hand_keys_acted a (ring_of l)))) (sym c.in-SendUp.is)
 
 pub returns-in-ForgetHand : goal.returns-in-ForgetHand
 unfolding hand_acts_bytes

@@ -15,9 +15,9 @@ pub returns : goal.returns
 returns g c =
     let l = c.args.self.now in
     let y = held_in l in
-    let after = c.do-act-effect.new.self in
-    let out : out_of c.do-act-effect.result (state_of after) ≡ hand_does (length y.peers) c.args.act y =
-    c.do-act-effect.ensures ∙ ap (λ (n : ℕ). hand_does n c.args.act y) (sym (many_of l.end)) in
+    let after = c.do_act-effect.new.self in
+    let out : out_of c.do_act-effect.result (state_of after) ≡ hand_does (length y.peers) c.args.act y =
+    c.do_act-effect.ensures ∙ ap (λ (n : ℕ). hand_does n c.args.act y) (sym (many_of l.end)) in
     let many = many_kept l.end after (ap (λ (o : Out HandState). length o.held.peers) out ∙ hand_does_size y (length y.peers) c.args.act) in
-    heard_by_lem (g.V.Vault.holds c.args.vault.now).hash hand_seals None c.do-act-effect.result (hand_does (length y.peers) c.args.act y) (state_of after) (ring_of l) (take after.many l.keys) c.say.result
+    heard_by_lem (g.V.Vault.holds c.args.vault.now).hash hand_seals None c.do_act-effect.result (hand_does (length y.peers) c.args.act y) (state_of after) (ring_of l) (take after.many l.keys) c.say.result
     refl out c.say.ensures (ap (λ (n : ℕ). take n l.keys) many)

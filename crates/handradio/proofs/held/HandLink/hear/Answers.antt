@@ -33,8 +33,8 @@ returns-in-Err-judge g c =
     (by_verdict v c.args.s c.args.bytes.now (held_in l) (ring_of l) k (Some c.in-Err-judge.refusal) l.end.many (k.len - 0)
     c.in-Ok.ensures.parts (sym (many_of l.end)) (from_0 k.len) c.in-Err-judge.ensures)
 
-pub hear-tagged-requires : goal.hear-tagged-requires
-hear-tagged-requires g c =
+pub hear_tagged-requires : goal.hear_tagged-requires
+hear_tagged-requires g c =
     let k = c.in-Ok.cut in
     record {
       message = c.in-Ok-judge.ensures.1 ∙ ap (λ (n : ℕ). message_of (take n k.row)) (from_0 k.len);
@@ -47,18 +47,18 @@ returns-in-Begin g c =
     let l = c.args.self.now in
     let v = g.V.Vault.holds c.args.vault.now in
     let k = c.in-Ok.cut in
-    c.hear-begin.ensures
+    c.hear_begin.ensures
     ∙ ap (λ (m : Message). answer_of v.hash (hand_message v c.args.s c.args.bytes.now k m (held_in l) (ring_of l))) (sym c.in-Begin.is)
     ∙ ap (λ (r : Reception HandState (List GateKeys)). answer_of v.hash r)
     (by_message v c.args.s c.args.bytes.now (held_in l) (ring_of l) k c.in-Ok-judge.message l.end.many (k.len - 0)
     c.in-Ok.ensures.parts (sym (many_of l.end)) (from_0 k.len) c.in-Ok-judge.ensures.0 c.in-Ok-judge.ensures.1)
 
-pub returns-in-default : goal.returns-in-default
-returns-in-default g c =
+pub returns-in_default : goal.returns-in_default
+returns-in_default g c =
     let l = c.args.self.now in
     let v = g.V.Vault.holds c.args.vault.now in
     let k = c.in-Ok.cut in
-    c.hear-tagged.ensures
+    c.hear_tagged.ensures
     ∙ ap (λ (r : Reception HandState (List GateKeys)). answer_of v.hash r)
-    (by_tag v c.args.s c.args.bytes.now (held_in l) (ring_of l) k c.tag-key-key.result c.in-Ok-judge.message l.end.many (k.len - 0)
-    c.in-Ok.ensures.parts (sym (many_of l.end)) (from_0 k.len) c.in-Ok-judge.ensures.0 c.in-Ok-judge.ensures.1 c.in-default.not-Begin c.tag-key-key.ensures)
+    (by_tag v c.args.s c.args.bytes.now (held_in l) (ring_of l) k c.tag_key-key.result c.in-Ok-judge.message l.end.many (k.len - 0)
+    c.in-Ok.ensures.parts (sym (many_of l.end)) (from_0 k.len) c.in-Ok-judge.ensures.0 c.in-Ok-judge.ensures.1 c.in_default.not-Begin c.tag_key-key.ensures)

@@ -17,7 +17,7 @@ pub returns-in-Err : goal.returns-in-Err
 returns-in-Err g c =
     let l = c.args.self.now in
     let y = held_in l in
-    let after = c.hear-row.new.self in
+    let after = c.hear_row.new.self in
     let row = c.args.row.now in
     let t = c.args.genuine in
     let s = c.args.s in
@@ -32,7 +32,7 @@ pub returns-in-Ok : goal.returns-in-Ok
 returns-in-Ok g c =
     let l = c.args.self.now in
     let y = held_in l in
-    let after = c.hear-row.new.self in
+    let after = c.hear_row.new.self in
     let row = c.args.row.now in
     let t = c.args.genuine in
     let s = c.args.s in

@@ -11,6 +11,6 @@ unfolding hand_acting
 returns c =
     let a = hand_act_of c.args.kind c.args.g c.args.body in
     let y = state_of c.args.self.now in
-    acted (state_of c.do-act-effect.new.self) (hand_does c.args.gates a y) c.do-act-effect.result c.write.result c.write.new.out
-    (c.do-act-effect.ensures ∙ ap (λ (b : HandAct). hand_does c.args.gates b y) c.act-of.ensures)
+    acted (state_of c.do_act-effect.new.self) (hand_does c.args.gates a y) c.do_act-effect.result c.write.result c.write.new.out
+    (c.do_act-effect.ensures ∙ ap (λ (b : HandAct). hand_does c.args.gates b y) c.act_of.ensures)
     (hand_delivers_nothing c.args.gates a y) c.write.ensures.len c.write.ensures.row

@@ -11,8 +11,8 @@ use Rattle.handset.proofs.handset.Handset.at.Goals as goal
 pub step-requires : goal.step-requires
 step-requires c = record { bounded = all_at is_bounded_peer c.args.self.now.peers c.args.gate _ c.args.self.now.bounded (omega arith); small = c.requires }
 
-pub invariant-of-self : goal.invariant-of-self
-invariant-of-self c = (rw length-set c.args.self.now.fits, (all_set is_bounded_peer c.args.self.now.peers c.args.gate c.step.new.peer c.args.self.now.bounded c.step.ensures.bounded, tt))
+pub invariant_of-self : goal.invariant_of-self
+invariant_of-self c = (rw length-set c.args.self.now.fits, (all_set is_bounded_peer c.args.self.now.peers c.args.gate c.step.new.peer c.args.self.now.bounded c.step.ensures.bounded, tt))
 
 pub returns : goal.returns
 returns c =

@@ -20,6 +20,6 @@ returns-in-Ok c =
     let y = state_of c.args.self.now in
     let judged = c.in-Ok.ensures in (
       judged.0,
-      c.hear-message.ensures ∙ ap (λ (m : Message). hand_hears c.args.s m y) judged.1
+      c.hear_message.ensures ∙ ap (λ (m : Message). hand_hears c.args.s m y) judged.1
           ∙ sym (ap (λ (w : Option Refusal). unless w y (hand_hears c.args.s (message_of c.args.row.now) y)) judged.0),
     )

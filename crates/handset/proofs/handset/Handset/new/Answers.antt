@@ -7,8 +7,8 @@ use Rattle.endpoint.proofs.Tables.{all_new}
 use Rattle.handset.specs.Peers.{is_bounded_peer}
 use Rattle.handset.proofs.handset.Handset.new.Goals as goal
 
-pub invariant-of-result : goal.invariant-of-result
-invariant-of-result c =
+pub invariant_of-result : goal.invariant_of-result
+invariant_of-result c =
     let few : c.args.gates ≤ 255 = omega arith in
     (rw length-replicate few, (all_new is_bounded_peer 255 _ refl, tt))
 

@@ -26,7 +26,7 @@ returns-in-5 c = record { parts = c.load.ensures.parts ∙ sym (cut_by 5 c.args.
 pub returns-in-6 : goal.returns-in-6
 returns-in-6 c = record { parts = c.all.ensures.parts ∙ sym (cut_by 6 c.args.bytes.now (omega arith) (omega arith)); within = c.all.ensures.within }
 
-pub returns-in-default : goal.returns-in-default
-returns-in-default c =
+pub returns-in_default : goal.returns-in_default
+returns-in_default c =
     let beyond : 7 ≤ get_or c.args.bytes.now 0 0 = omega arith in
     record { parts = sym (cut_unknown c.args.bytes.now (omega arith) beyond); within = tt }

@@ -25,8 +25,8 @@ returns-then-gate-len c =
     let u = c.len-in-Some.ensures in
     let k = c.len.ensures in
     let may = c.in-Some.ensures in
-    let p = gate_acts_lem (world_of d) c.args.gate c.args.act (world_of c.gate-acts-played.new.self) _ (gate_act_of call.kind call.hand call.body) (omega arith) hands (rw (sym k) may.0) may.1 c.gate-acts-played.ensures.world in
-    (p.0, p.1, c.gate-acts-played.ensures.tells)
+    let p = gate_acts_lem (world_of d) c.args.gate c.args.act (world_of c.gate_acts-played.new.self) _ (gate_act_of call.kind call.hand call.body) (omega arith) hands (rw (sym k) may.0) may.1 c.gate_acts-played.ensures.world in
+    (p.0, p.1, c.gate_acts-played.ensures.tells)
 
 pub returns-else-gate-len : goal.returns-else-gate-len
 returns-else-gate-len c =

@@ -25,8 +25,8 @@ returns-then-hand-len c =
     let u = c.len-in-Some.ensures in
     let k = c.len.ensures in
     let may = c.in-Some.ensures in
-    let p = hand_acts_lem (world_of d) c.args.hand c.args.act (world_of c.hand-acts-played.new.self) _ (hand_act_of call.kind call.gate call.body) (omega arith) gates (rw (sym k) may.0) may.1 c.hand-acts-played.ensures.world in
-    (p.0, p.1, c.hand-acts-played.ensures.tells)
+    let p = hand_acts_lem (world_of d) c.args.hand c.args.act (world_of c.hand_acts-played.new.self) _ (hand_act_of call.kind call.gate call.body) (omega arith) gates (rw (sym k) may.0) may.1 c.hand_acts-played.ensures.world in
+    (p.0, p.1, c.hand_acts-played.ensures.tells)
 
 pub returns-else-hand-len : goal.returns-else-hand-len
 returns-else-hand-len c =

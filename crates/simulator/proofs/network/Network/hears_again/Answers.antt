@@ -14,8 +14,8 @@ hears-requires c =
     let u = c.len.ensures in
     record {
       may = may_again xs c.args.place c.index.result.now (omega arith) c.index.ensures;
-      sent-room = c.requires.sent-room;
-      delivered-room = c.requires.delivered-room;
+      sent_room = c.requires.sent_room;
+      delivered_room = c.requires.delivered_room;
     }
 
 pub returns-then-place-len : goal.returns-then-place-len

@@ -18,7 +18,7 @@ returns-then-place-len c =
     let u = c.len.ensures in
     let long = entries_length xs in
     let lt : n < length xs = omega arith in
-    c.is-answered.ensures ∙ ap (λ (e : Entry). is_answered e.message) (sym (nth_sent xs n c.index.result.now lt c.index.ensures))
+    c.is_answered.ensures ∙ ap (λ (e : Entry). is_answered e.message) (sym (nth_sent xs n c.index.result.now lt c.index.ensures))
     ∙ sym (ap (λ (b : Bool). b && is_answered (sent_at n w)) (lt-ltb n (length w.transcript) (omega arith)))
     ∙ sym (ap (λ (x : Command). may_say x w) c.in-Hear.is)
 

@@ -4,8 +4,8 @@ use Rattle.simulator.proofs.Mute.{few_played}
 use Rattle.simulator.proofs.Reaching.{reached_played}
 use Rattle.simulator.proofs.simulator.Simulator.play.Goals as goal
 
-pub invariant-of-self : goal.invariant-of-self
-invariant-of-self c =
+pub invariant_of-self : goal.invariant_of-self
+invariant_of-self c =
     let d = c.args.self.now in
     let v = world_of c.play.new.self in (
       few_played (world_of d.network) v c.args.command c.play.result c.play.ensures d.few,

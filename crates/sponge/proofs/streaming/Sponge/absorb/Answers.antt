@@ -11,7 +11,7 @@ loop-self-preserved c =
     let e : room ≡ at + room - at = omega arith in
     let joined : take (at + room) part ≡ take at part ++ take (at + room - at) (drop at part) =
     take-add at room part ∙ ap (λ n. take at part ++ take n (drop at part)) e in
-    (omega arith, absorbs_then _ _ _ _ _ _ joined c.loop-self.invariant.1 c.complete-block.ensures)
+    (omega arith, absorbs_then _ _ _ _ _ _ joined c.loop-self.invariant.1 c.complete_block.ensures)
 
 pub returns : goal.returns
 returns c =
@@ -19,4 +19,4 @@ returns c =
     let at : ℕ = c.loop-self.at in
     let joined : part ≡ take at part ++ take (length part - at) (drop at part) =
     sym (take-append-drop at part) ∙ ap (λ z. take at part ++ z) (sym (take_rest part at)) in
-    absorbs_then _ _ _ _ _ _ joined c.loop-self.invariant.1 c.start-block.ensures
+    absorbs_then _ _ _ _ _ _ joined c.loop-self.invariant.1 c.start_block.ensures

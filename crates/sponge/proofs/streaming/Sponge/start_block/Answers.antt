@@ -10,7 +10,7 @@ returns c = λ more n.
     let block : List ℕ = c.args.self.now.block in
     let filled : ℕ = c.args.self.now.filled in
     let inside : filled ≤ length block = omega arith in
-    let end : filled + length tail ≡ filled + length c.copy-from-slice.new.self = cc in
-    let written = take-put_mid filled (filled + length tail - filled) block c.copy-from-slice.new.self (filled + length tail) end inside in
+    let end : filled + length tail ≡ filled + length c.copy_from_slice.new.self = cc in
+    let written = take-put_mid filled (filled + length tail - filled) block c.copy_from_slice.new.self (filled + length tail) end inside in
     let group = append_assoc (take filled block) tail more in
     cc

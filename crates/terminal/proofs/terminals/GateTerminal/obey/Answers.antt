@@ -38,7 +38,7 @@ returns-in-Act g c =
       plays = subst (λ (x : Command). GateDoes v t.index 0 (Ok (Some x)) (held_in t.link) (ring_of t.link) c.acts.result (held_in c.acts.new.link) (ring_of c.acts.new.link))
           (sym c.in-Act.is)
           (subst (λ (a : GateAct). Comes delivered_at_gate (answer_of v.hash (gate_acts_bytes v t.index a (held_in t.link) (ring_of t.link))) c.acts.result (held_in c.acts.new.link) (ring_of c.acts.new.link))
-          c.act-of.ensures c.acts.ensures);
+          c.act_of.ensures c.acts.ensures);
       vault = refl;
       index = refl;
     }

@@ -38,7 +38,7 @@ returns-in-Act g c =
       plays = subst (λ (x : Command). HandDoes v t.index 0 (Ok (Some x)) (held_in t.link) (ring_of t.link) c.acts.result (held_in c.acts.new.link) (ring_of c.acts.new.link))
           (sym c.in-Act.is)
           (subst (λ (a : HandAct). Comes delivered_at_hand (answer_of v.hash (hand_acts_bytes a (held_in t.link) (ring_of t.link))) c.acts.result (held_in c.acts.new.link) (ring_of c.acts.new.link))
-          c.act-of.ensures c.acts.ensures);
+          c.act_of.ensures c.acts.ensures);
       vault = refl;
       index = refl;
     }
