@@ -8,7 +8,7 @@ use Rattle.std.specs.Fmt.{HasWritten}
 use Rattle.std.proofs.Output.{has_written_of_eq, has_written_append}
 use Rattle.std.proofs.lemmas.Str.Ascii.{encode_ascii}
 use Rattle.std.proofs.lemmas.List.{append_assoc, append-nil, drop_all, drop_more, flat_map_more, length-set, length-take-le, take_more, take_more_set}
-use Rattle.std.proofs.lemmas.Bool.{cond_false, cond_true, le-ltb, lt-ltb}
+use Rattle.std.proofs.lemmas.Bool.{cond-false, cond-true, le-ltb, lt-ltb}
 use Rattle.std.proofs.lemmas.Bool.Decides.{nat_tests}
 use Rattle.console.specs.Hex.{byte_of, hex_bytes, hex_text, in_front, message_bytes, nibble_of, of_message}
 
@@ -40,7 +40,7 @@ twice (x ∷ y ∷ ds) = one_more x y ds (byte_of (nibble_of x) (nibble_of y)) (
 
 past : (ds : List ℕ) (o : Option (List ℕ)) → 280 < length ds → Twice ds o → of_message o ≡ None
 past ds None h t = refl
-past ds (Some bs) h t = cond_true _ _ _ (lt-ltb 140 (length bs) (omega arith))
+past ds (Some bs) h t = cond-true _ _ _ (lt-ltb 140 (length bs) (omega arith))
 
 pub too_long : (ds : List ℕ) → 280 < length ds → message_bytes ds ≡ None
 too_long ds h = past ds (hex_bytes ds) h (twice ds)
@@ -95,7 +95,7 @@ module _ {ds bytes : List ℕ} {i : ℕ} (so : Sofar ds bytes i) where
       let whole : hex_bytes ds ≡ Some (take n bytes) =
       so.read ∙ ap (λ (l : List ℕ). option_map (λ bs. take i bytes ++ bs) (hex_bytes l)) (drop_all (2 * i) ds (omega arith))
       ∙ ap (λ (l : List ℕ). Some l) (append-nil (take i bytes) ∙ ap (λ (k : ℕ). take k bytes) (sym at)) in
-      sym (ap of_message whole ∙ cond_false _ _ _ (le-ltb 140 (length (take n bytes)) few))
+      sym (ap of_message whole ∙ cond-false _ _ _ (le-ltb 140 (length (take n bytes)) few))
 
 -- ---- writing
 

@@ -6,7 +6,7 @@ use Rattle.std.specs.Str.{all_ascii_digits}
 use Rattle.std.proofs.lemmas.Fmt.{decimal_nonempty, digits_decimal}
 use Rattle.std.proofs.lemmas.List.{append_assoc, append-nil, length-take}
 use Rattle.std.proofs.lemmas.Str.Parse.{IsNumeralModel, numerals_by_value, tells_all_ascii_digits}
-use Rattle.std.proofs.lemmas.Bool.{and_from, and_parts, and_right, both_ways, cond_false, ne_eqb, le-ltb}
+use Rattle.std.proofs.lemmas.Bool.{and_from, and_parts, and_right, both_ways, cond-false, ne_eqb, le-ltb}
 use Rattle.std.proofs.lemmas.Bool.Decides.{nat_tests}
 use Rattle.frame.specs.declared.message.Refusal.TheVariants.{NoRow}
 use Rattle.octets.specs.Cutting.{cut, cut_kind}
@@ -64,7 +64,7 @@ unfolding cut
 long_is_no_row bs h =
     let kind : ℕ = get_or bs 0 7 in
     let apart : eqb (length bs) (total (widths (layout kind))) ≡ false = ne_eqb _ _ (λ e. omega (arith, short kind)) in
-    cond_false _ (Ok (cut_kind kind bs)) (Err NoRow) (and_right (ltb kind 7) _ apart)
+    cond-false _ (Ok (cut_kind kind bs)) (Err NoRow) (and_right (ltb kind 7) _ apart)
 
 left_out : (bs : List ℕ) → of_message (Some bs) ≡ None → 140 < length bs
 left_out bs e = grind (arith, nat_tests)
@@ -135,7 +135,7 @@ whole_act : Whole (codes "act")
 whole_act = record { dark = refl; some = omega arith }
 
 few : (bs : List ℕ) → length bs ≤ 140 → of_message (Some bs) ≡ Some bs
-few bs h = cond_false _ _ _ (le-ltb 140 (length bs) h)
+few bs h = cond-false _ _ _ (le-ltb 140 (length bs) h)
 
 held : (p : Packet) → length (bytes_in p) ≤ 140
 held p = omega (arith, length-take p.len p.bytes, p.fits)

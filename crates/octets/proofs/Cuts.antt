@@ -1,5 +1,5 @@
 -- Bytes are cut by their first.
-use Rattle.std.proofs.Common.{◌≡◌, ℕ, ◌≤◌, Bool, true, cond, ◌&&◌, eqb, ltb, List, [], ◌∷◌, length, get_or, Ok, Err, refl, ap, ◌∙◌, arith, le-ltb, eq_eqb}
+use Rattle.std.proofs.Common.{◌≡◌, ℕ, ◌≤◌, Bool, true, cond, ◌&&◌, eqb, ltb, List, [], ◌∷◌, length, get_or, Ok, Err, refl, ap, ◌∙◌, arith, le-ltb, eq-eqb}
 use Rattle.frame.specs.declared.message.Refusal.TheVariants.{NoRow}
 use Rattle.octets.specs.Layout.{layout, widths, total}
 use Rattle.octets.specs.Cutting.{cut_kind, cut_as, cut}
@@ -22,4 +22,4 @@ cut_unknown x some beyond =
 pub cut_is : (k : ℕ) (x : List ℕ) → get_or x 0 7 ≡ k → ltb k 7 ≡ true → length x ≡ total (widths (layout k)) → cut x ≡ Ok (cut_kind k x)
 unfolding cut
 cut_is k x e t l =
-    ap (λ (j : ℕ). cut_as j x) e ∙ (λ i. cond (t i && eq_eqb (length x) (total (widths (layout k))) l i) (Ok (cut_kind k x)) (Err NoRow))
+    ap (λ (j : ℕ). cut_as j x) e ∙ (λ i. cond (t i && eq-eqb (length x) (total (widths (layout k))) l i) (Ok (cut_kind k x)) (Err NoRow))
