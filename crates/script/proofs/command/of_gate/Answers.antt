@@ -7,20 +7,20 @@ use Rattle.script.proofs.command.of_gate.Goals as goal
 pub returns-in_default : goal.returns-in_default
 returns-in_default c = no_gate_verb c.args.gate _ c.in_default.ensures
 
-pub returns-in_err-hand : goal.returns-in_err-hand
-returns-in_err-hand c = refuses (Number c.args.gate ∷ []) _ _ _ c.in-Some.ensures form.Invite c.args.gate _ c.in-Invites.is refl _ _ c.from_residual.ensures.1 c.in_err-hand.ensures
+pub returns-in_err-hand-in-Invites : goal.returns-in_err-hand-in-Invites
+returns-in_err-hand-in-Invites c = refuses (Number c.args.gate ∷ []) _ _ _ c.in-Some.ensures form.Invite c.args.gate _ c.in-Invites.is refl _ _ c.from_residual.ensures.1 c.in_err-hand.ensures
 
-pub returns-in_err-hand-2 : goal.returns-in_err-hand-2
-returns-in_err-hand-2 c = refuses (Number c.args.gate ∷ []) _ _ _ c.in-Some.ensures form.Send c.args.gate _ c.in-Sends.is refl _ _ c.from_residual-in_err-hand-2.ensures.1 c.in_err-hand-2.ensures
+pub returns-in_err-hand-in-Sends : goal.returns-in_err-hand-in-Sends
+returns-in_err-hand-in-Sends c = refuses (Number c.args.gate ∷ []) _ _ _ c.in-Some.ensures form.Send c.args.gate _ c.in-Sends.is refl _ _ c.from_residual-in_err-hand-2.ensures.1 c.in_err-hand-2.ensures
 
-pub returns-in_err-body : goal.returns-in_err-body
-returns-in_err-body c = refuses (Number c.args.gate ∷ []) _ _ _ c.in-Some.ensures form.Broadcast c.args.gate _ c.in-All.is refl _ _ c.from_residual-in_err-body.ensures.1 c.in_err-body.ensures
+pub returns-in_err-body-in-All : goal.returns-in_err-body-in-All
+returns-in_err-body-in-All c = refuses (Number c.args.gate ∷ []) _ _ _ c.in-Some.ensures form.Broadcast c.args.gate _ c.in-All.is refl _ _ c.from_residual-in_err-body.ensures.1 c.in_err-body.ensures
 
-pub returns-in_err-numbers : goal.returns-in_err-numbers
-returns-in_err-numbers c = refuses (Number c.args.gate ∷ []) _ _ _ c.in-Some.ensures form.Rotate c.args.gate _ c.in-Turns.is refl _ _ c.from_residual-in_err-numbers.ensures.1 c.in_err-numbers.ensures
+pub returns-in_err-numbers-in-Turns : goal.returns-in_err-numbers-in-Turns
+returns-in_err-numbers-in-Turns c = refuses (Number c.args.gate ∷ []) _ _ _ c.in-Some.ensures form.Rotate c.args.gate _ c.in-Turns.is refl _ _ c.from_residual-in_err-numbers.ensures.1 c.in_err-numbers.ensures
 
-pub returns-in_err-hand-3 : goal.returns-in_err-hand-3
-returns-in_err-hand-3 c = refuses (Number c.args.gate ∷ []) _ _ _ c.in-Some.ensures form.Rekey c.args.gate _ c.in-Words.is refl _ _ c.from_residual-in_err-hand-3.ensures.1 c.in_err-hand-3.ensures
+pub returns-in_err-hand-in-Words : goal.returns-in_err-hand-in-Words
+returns-in_err-hand-in-Words c = refuses (Number c.args.gate ∷ []) _ _ _ c.in-Some.ensures form.Rekey c.args.gate _ c.in-Words.is refl _ _ c.from_residual-in_err-hand-3.ensures.1 c.in_err-hand-3.ensures
 
-pub returns-in_err-numbers-2 : goal.returns-in_err-numbers-2
-returns-in_err-numbers-2 c = refuses (Number c.args.gate ∷ []) _ _ _ c.in-Some.ensures form.ForgetGate c.args.gate _ c.in-Forgets.is refl _ _ c.from_residual-in_err-numbers-2.ensures.1 c.in_err-numbers-2.ensures
+pub returns-in_err-numbers-in-Forgets : goal.returns-in_err-numbers-in-Forgets
+returns-in_err-numbers-in-Forgets c = refuses (Number c.args.gate ∷ []) _ _ _ c.in-Some.ensures form.ForgetGate c.args.gate _ c.in-Forgets.is refl _ _ c.from_residual-in_err-numbers-2.ensures.1 c.in_err-numbers-2.ensures

@@ -7,8 +7,8 @@ use Rattle.script.proofs.command.of_hand.Goals as goal
 pub returns-in_default : goal.returns-in_default
 returns-in_default c = no_hand_verb c.args.hand _ c.in_default.ensures
 
-pub returns-in_err-gate : goal.returns-in_err-gate
-returns-in_err-gate c = refuses (Word (codes "hand") ∷ Number c.args.hand ∷ []) _ _ _ c.in-Some.ensures form.SendUp c.args.hand _ c.in-Sends.is refl _ _ c.from_residual.ensures.1 c.in_err-gate.ensures
+pub returns-in_err-gate-in-Sends : goal.returns-in_err-gate-in-Sends
+returns-in_err-gate-in-Sends c = refuses (Word (codes "hand") ∷ Number c.args.hand ∷ []) _ _ _ c.in-Some.ensures form.SendUp c.args.hand _ c.in-Sends.is refl _ _ c.from_residual.ensures.1 c.in_err-gate.ensures
 
-pub returns-in_err-numbers : goal.returns-in_err-numbers
-returns-in_err-numbers c = refuses (Word (codes "hand") ∷ Number c.args.hand ∷ []) _ _ _ c.in-Some.ensures form.ForgetHand c.args.hand _ c.in-Forgets.is refl _ _ c.from_residual-in_err-numbers.ensures.1 c.in_err-numbers.ensures
+pub returns-in_err-numbers-in-Forgets : goal.returns-in_err-numbers-in-Forgets
+returns-in_err-numbers-in-Forgets c = refuses (Word (codes "hand") ∷ Number c.args.hand ∷ []) _ _ _ c.in-Some.ensures form.ForgetHand c.args.hand _ c.in-Forgets.is refl _ _ c.from_residual-in_err-numbers.ensures.1 c.in_err-numbers.ensures

@@ -12,7 +12,12 @@ pub step-requires : goal.step-requires
 step-requires c = record { bounded = all_at is_bounded_peer c.args.self.now.peers c.args.hand _ c.args.self.now.bounded (omega arith); small = c.requires }
 
 pub invariant_of-self : goal.invariant_of-self
-invariant_of-self c = (c.args.self.now.few, (rw length-set c.args.self.now.whole, (all_set is_bounded_peer c.args.self.now.peers c.args.hand c.step.new.peer c.args.self.now.bounded c.step.ensures.bounded, tt)))
+invariant_of-self c = 
+    record {
+      few = c.args.self.now.few;
+      whole = rw length-set c.args.self.now.whole;
+      bounded = all_set is_bounded_peer c.args.self.now.peers c.args.hand c.step.new.peer c.args.self.now.bounded c.step.ensures.bounded;
+    }
 
 pub returns : goal.returns
 returns c =

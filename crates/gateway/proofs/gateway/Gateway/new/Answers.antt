@@ -8,7 +8,7 @@ use Rattle.gateway.specs.Peers.{is_bounded_peer}
 use Rattle.gateway.proofs.gateway.Gateway.new.Goals as goal
 
 pub invariant_of-result : goal.invariant_of-result
-invariant_of-result c = (c.requires, (rw length-replicate refl, (all_new is_bounded_peer 512 _ refl, tt)))
+invariant_of-result c = record { few = c.requires; whole = rw length-replicate refl; bounded = all_new is_bounded_peer 512 _ refl }
 
 pub returns : goal.returns
 returns c =

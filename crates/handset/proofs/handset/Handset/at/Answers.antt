@@ -12,7 +12,8 @@ pub step-requires : goal.step-requires
 step-requires c = record { bounded = all_at is_bounded_peer c.args.self.now.peers c.args.gate _ c.args.self.now.bounded (omega arith); small = c.requires }
 
 pub invariant_of-self : goal.invariant_of-self
-invariant_of-self c = (rw length-set c.args.self.now.fits, (all_set is_bounded_peer c.args.self.now.peers c.args.gate c.step.new.peer c.args.self.now.bounded c.step.ensures.bounded, tt))
+invariant_of-self c = 
+    record { fits = rw length-set c.args.self.now.fits; bounded = all_set is_bounded_peer c.args.self.now.peers c.args.gate c.step.new.peer c.args.self.now.bounded c.step.ensures.bounded }
 
 pub returns : goal.returns
 returns c =

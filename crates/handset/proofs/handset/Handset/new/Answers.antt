@@ -10,7 +10,7 @@ use Rattle.handset.proofs.handset.Handset.new.Goals as goal
 pub invariant_of-result : goal.invariant_of-result
 invariant_of-result c =
     let few : c.args.gates ≤ 255 = omega arith in
-    (rw length-replicate few, (all_new is_bounded_peer 255 _ refl, tt))
+    record { fits = rw length-replicate few; bounded = all_new is_bounded_peer 255 _ refl }
 
 pub returns : goal.returns
 returns c =
