@@ -3,14 +3,14 @@ use frame::Node;
 use std::test::Fail;
 
 macro_rules! read {
-    ($($line:literal as $want:pat),+ $(,)?) => {
-        $(check(matches!(parse($line), $want)).note(stringify!($line))?;)+
+    ($rt:ident; $($line:literal as $want:pat),+ $(,)?) => {
+        $(assert!($rt; matches!(parse($line), $want), "{}", stringify!($line));)+
     };
 }
 
 #[test]
-fn commands() -> Result<(), Fail> {
-    read!(
+fn commands(rt: HostRuntime) -> Result<(), Fail> {
+    read!(rt;
         b"0 invites 1" as Ok(Some(Command::Invite { gate: 0, hand: 1 })),
         b"0 sends 1 7" as Ok(Some(Command::Send { gate: 0, hand: 1, body: 7 })),
         b"0 all 7" as Ok(Some(Command::Broadcast { gate: 0, body: 7 })),
@@ -27,7 +27,7 @@ fn commands() -> Result<(), Fail> {
 
 #[test]
 fn blanks_comments_and_large_numbers(rt: HostRuntime) -> Result<(), Fail> {
-    read!(
+    read!(rt;
         b"" as Ok(None),
         b" \t\r" as Ok(None),
         b"  # 0 turns" as Ok(None),
@@ -40,8 +40,8 @@ fn blanks_comments_and_large_numbers(rt: HostRuntime) -> Result<(), Fail> {
 }
 
 #[test]
-fn malformed() -> Result<(), Fail> {
-    read!(
+fn malformed(rt: HostRuntime) -> Result<(), Fail> {
+    read!(rt;
         b"0" as Err(Malformed::NotACommand),
         b"hand" as Err(Malformed::NotACommand),
         b"hand 1 invites 0" as Err(Malformed::NotACommand),

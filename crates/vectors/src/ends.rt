@@ -3,7 +3,7 @@ use endpoint::Heard;
 use frame::{Direction, Message, Nonce, Pair, ROW};
 use gateway::{Gateway, Post};
 use handset::{Hand, Handset};
-use std::test::*;
+use std::test::Fail;
 
 const INVITE: u8 = 0;
 
@@ -119,19 +119,18 @@ impl Ends {
                 let heard = self
                     .gate
                     .hear(0, 1, &row[0..len], true, &mut said, &mut taken);
-                assert!(heard.code == 0);
+                check(heard.code == 0)?;
             }
             Input::HandHears(message) => {
                 let len = message.write(&mut row) as usize;
                 let heard = self
                     .hand
                     .hear(1, 0, &row[0..len], true, &mut said, &mut taken);
-                assert!(heard.code == 0);
+                check(heard.code == 0)?;
             }
         }
-        assert!(said == written(says));
-        assert!(taken == written(takes));
-        Ok(())
+        check(said == written(says))?;
+        check(taken == written(takes))
     }
 
     fn gate_acts(&mut self, kind: u8, body: u64, says: Option<Message>) -> Result<(), Fail> {
@@ -165,6 +164,12 @@ impl Ends {
         self.hand_hears(take(group, counter, p), Some(Message::Taken { pair: p }))?;
         self.gate_hears(Message::Taken { pair: p }, None)
     }
+}
+
+/// What an end answers is what the case has.
+fn check(holds: bool) -> Result<(), Fail> {
+    holds.then_some(()).ok_or("an end answers otherwise")?;
+    Ok(())
 }
 
 /// The row of a message in its twelve places; noughts where there is none.

@@ -7,4 +7,8 @@ use Rattle.simulator.proofs.simulator.Simulator.new.Goals as goal
 pub invariant_of-result : goal.invariant_of-result
 invariant_of-result c =
     let e = sym c.in_ok-network.ensures in
-    (subst (λ (w : World). length w.transcript ≤ 10000) e (omega arith), (subst (λ (w : World). Reached w) e (reached_start c.args.gates c.args.hands), tt))
+    
+    record {
+      few = subst (λ (w : World). length w.transcript ≤ 10000) e (omega arith);
+      reached = subst (λ (w : World). Reached w) e (reached_start c.args.gates c.args.hands);
+    }

@@ -7,10 +7,11 @@ use Rattle.simulator.proofs.simulator.Simulator.play.Goals as goal
 pub invariant_of-self : goal.invariant_of-self
 invariant_of-self c =
     let d = c.args.self.now in
-    let v = world_of c.play.new.self in (
-      few_played (world_of d.network) v c.args.command c.play.result c.play.ensures d.few,
-      (reached_played (world_of d.network) v c.args.command c.play.result c.play.ensures d.reached, tt),
-    )
+    let v = world_of c.play.new.self in
+    record {
+      few = few_played (world_of d.network) v c.args.command c.play.result c.play.ensures d.few;
+      reached = reached_played (world_of d.network) v c.args.command c.play.result c.play.ensures d.reached;
+    }
 
 pub returns : goal.returns
 returns c =
