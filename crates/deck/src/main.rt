@@ -30,7 +30,7 @@ fn run(rt: &HostRuntime) -> anyhow::Result<()> {
         Some("--version") => println!(rt; "deck {VERSION}, proved with {KIT}")?,
         _ => {
             let (Some(gates), Some(hands), None) = (count(&first), count(&second), third) else {
-                return Err(USAGE.into());
+                return Err(anyhow!("{USAGE}"));
             };
             play(rt, gates, hands)?;
         }
