@@ -7,16 +7,17 @@ use script::line::number;
 use simulator::{Answer, Simulator};
 use std::env;
 use std::io::{BufRead, BufReader};
+use std::process::ExitCode;
 use usage::{DECK_HELP, KIT, VERSION};
 
 const USAGE: &str = "usage: deck GATES HANDS < SCRIPT, with numbers of gates and handhelds";
 
-fn main(rt: HostRuntime) -> anyhow::Result<()> {
+fn main(rt: HostRuntime) -> ExitCode {
     match run(&rt) {
-        Ok(()) => Ok(()),
+        Ok(()) => ExitCode::SUCCESS,
         Err(e) => {
-            eprintln!(rt; "deck: {e}")?;
-            Err(e)
+            let _ = eprintln!(rt; "deck: {e}");
+            ExitCode::FAILURE
         }
     }
 }

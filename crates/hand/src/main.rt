@@ -6,16 +6,17 @@ use anyhow::anyhow;
 use console::Answer;
 use sealing::FileVault;
 use std::io::{BufRead, BufReader};
+use std::process::ExitCode;
 use std::{env, fs};
 use terminal::HandTerminal;
 use usage::{Arguments, HAND_HELP, KIT, Program, Request, VERSION};
 
-fn main(rt: HostRuntime) -> anyhow::Result<()> {
+fn main(rt: HostRuntime) -> ExitCode {
     match run(&rt) {
-        Ok(()) => Ok(()),
+        Ok(()) => ExitCode::SUCCESS,
         Err(e) => {
-            eprintln!(rt; "hand: {e}")?;
-            Err(e)
+            let _ = eprintln!(rt; "hand: {e}");
+            ExitCode::FAILURE
         }
     }
 }

@@ -6,13 +6,14 @@ use anyhow::anyhow;
 use script::line::number;
 use simulator::{Answer, Simulator};
 use std::io::{BufRead, BufReader};
+use std::process::ExitCode;
 
-fn main(rt: HostRuntime) -> anyhow::Result<()> {
+fn main(rt: HostRuntime) -> ExitCode {
     match run(&rt) {
-        Ok(()) => Ok(()),
+        Ok(()) => ExitCode::SUCCESS,
         Err(e) => {
-            eprintln!(rt; "playbook: {e}")?;
-            Err(e)
+            let _ = eprintln!(rt; "playbook: {e}");
+            ExitCode::FAILURE
         }
     }
 }
