@@ -1,5 +1,5 @@
 -- A message sealed and tagged, and opened again, over any hash function.
-use Rattle.std.specs.Prelude.{ℕ, Bool, true, false, ◌&&◌, List, [], ◌∷◌, ◌++◌, length, drop, replicate, codes, ◌==◌, bit_xor, slice_index}
+use Rattle.std.specs.Prelude.{ℕ, Bool, true, false, ◌&&◌, List, [], ◌∷◌, ◌++◌, drop, replicate, codes, ◌==◌, bit_xor, slice_index}
 use Rattle.frame.specs.declared.message.Message.{Message}
 use Rattle.frame.specs.declared.message.Message.TheVariants.{Begin, Reply, Take, Taken, Renew, Load, All}
 use Rattle.frame.specs.Row.{flag}

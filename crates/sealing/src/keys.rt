@@ -8,13 +8,13 @@ use crate::vault::Vault;
 
 /// The pairwise key with a peer, of both nonces in bytes, the gate's first.
 pub fn pair_key<V: Vault>(vault: &V, peer: u16, a: &[u8; 32], b: &[u8; 32]) -> [u8; 32]
-    ensures { result ≡ pairwise_key (holds vault.now) peer a.now b.now }
+    ensures { result ≡ pairwise_key (V.holds vault.now) peer a.now b.now }
 {
     pair_digest(vault, peer, a, b)
 }
 
 fn pair_digest<V: Vault>(vault: &V, peer: u16, a: &[u8; 32], b: &[u8; 32]) -> [u8; 32]
-    ensures { result ≡ digest_of (holds vault.now).hash (codes "pair") ((holds vault.now).shared peer) (a.now ++ b.now) 32 }
+    ensures { result ≡ digest_of (V.holds vault.now).hash (codes "pair") ((V.holds vault.now).shared peer) (a.now ++ b.now) 32 }
 {
     let secret = vault.shared(peer);
     let mut out = [0; 32];
@@ -33,13 +33,13 @@ fn both(a: &[u8; 32], b: &[u8; 32]) -> [u8; 64]
 
 /// A gate's `n`-th group key.
 pub fn group_key<V: Vault>(vault: &V, n: u64) -> [u8; 32]
-    ensures { result ≡ group_key (holds vault.now) n }
+    ensures { result ≡ group_key (V.holds vault.now) n }
 {
     group_digest(vault, n)
 }
 
 fn group_digest<V: Vault>(vault: &V, n: u64) -> [u8; 32]
-    ensures { result ≡ digest_of (holds vault.now).hash (codes "all") (holds vault.now).own (low_first 8 n) 32 }
+    ensures { result ≡ digest_of (V.holds vault.now).hash (codes "all") (V.holds vault.now).own (low_first 8 n) 32 }
 {
     let own = vault.own();
     let mut out = [0; 32];
@@ -49,7 +49,7 @@ fn group_digest<V: Vault>(vault: &V, n: u64) -> [u8; 32]
 
 /// A nonce in bytes, if there is entropy left for it. `index` counts an end's nonces.
 pub fn nonce<V: Vault>(vault: &V, kind: u64, node: u64, index: u64) -> Option<[u8; 32]>
-    ensures { elim result [ Some x ↦ (has_entropy (holds vault.now) index ≡ true) × (x ≡ nonce_bytes kind node index (entropy_at (holds vault.now) index)) | None ↦ has_entropy (holds vault.now) index ≡ false ] }
+    ensures { elim result [ Some x ↦ (has_entropy (V.holds vault.now) index ≡ true) × (x ≡ nonce_bytes kind node index (entropy_at (V.holds vault.now) index)) | None ↦ has_entropy (V.holds vault.now) index ≡ false ] }
 {
     let entropy = vault.entropy(index)?;
     Some(with_entropy(kind, node, index, &entropy))

@@ -22,7 +22,7 @@ pub fn seal<V: Vault>(
     key: &[u8; 32],
     group: &[u8; 32],
 ) -> Octets
-    ensures { text result ≡ octets_sealed (holds vault.now).hash (record { message = message.entry.now; a = a.now; b = b.now; key = key.now; group = group.now }) }
+    ensures { text result ≡ octets_sealed (V.holds vault.now).hash (record { message = message.entry.now; a = a.now; b = b.now; key = key.now; group = group.now }) }
 {
     let body = seal_body(vault, key, message);
     let carried = seal_key(vault, key, group, message);
@@ -39,7 +39,7 @@ fn tagged<V: Vault>(
     body: &[u8; 8],
     carried: &[u8; 32],
 ) -> Octets
-    ensures { text result ≡ octets_of message.now a.now b.now body.now carried.now (tag_of (holds vault.now).hash key.now (tagged_of message.now a.now b.now body.now carried.now)) }
+    ensures { text result ≡ octets_of message.now a.now b.now body.now carried.now (tag_of (V.holds vault.now).hash key.now (tagged_of message.now a.now b.now body.now carried.now)) }
 {
     let mut out = Octets::write(message, a, b, body, carried);
     match *message {
@@ -54,14 +54,14 @@ fn tagged<V: Vault>(
 
 /// Whether the tag over `bytes` is that of `key`.
 pub fn tag_is_right<V: Vault>(vault: &V, key: &[u8; 32], bytes: &[u8], tag: &[u8; 16]) -> bool
-    ensures { result ≡ same_bytes (tag_of (holds vault.now).hash key.now bytes.now) tag.now }
+    ensures { result ≡ same_bytes (tag_of (V.holds vault.now).hash key.now bytes.now) tag.now }
 {
     same_bytes(&tag_of(vault, key, bytes), tag)
 }
 
 /// The body of a message, opened.
 pub fn open_body<V: Vault>(vault: &V, key: &[u8; 32], message: &Message, sealed: &[u8; 8]) -> u64
-    ensures { result ≡ opened_body (holds vault.now).hash key.now message.now sealed.now }
+    ensures { result ≡ opened_body (V.holds vault.now).hash key.now message.now sealed.now }
 {
     number(&cover_body(vault, key, message, *sealed))
 }
@@ -73,14 +73,14 @@ pub fn open_key<V: Vault>(
     message: &Message,
     sealed: &[u8; 32],
 ) -> [u8; 32]
-    ensures { result ≡ opened_key (holds vault.now).hash key.now message.now sealed.now }
+    ensures { result ≡ opened_key (V.holds vault.now).hash key.now message.now sealed.now }
 {
     cover_key(vault, key, message, *sealed)
 }
 
 /// The sealed body; noughts where a message has none.
 fn seal_body<V: Vault>(vault: &V, key: &[u8; 32], message: &Message) -> [u8; 8]
-    ensures { result ≡ sealed_body (holds vault.now).hash key.now message.now }
+    ensures { result ≡ sealed_body (V.holds vault.now).hash key.now message.now }
 {
     match *message {
         Message::Load { body, .. } => cover_body(vault, key, message, low8(body)),
@@ -91,7 +91,7 @@ fn seal_body<V: Vault>(vault: &V, key: &[u8; 32], message: &Message) -> [u8; 8]
 
 /// The sealed group key; noughts where a message carries none.
 fn seal_key<V: Vault>(vault: &V, key: &[u8; 32], group: &[u8; 32], message: &Message) -> [u8; 32]
-    ensures { result ≡ sealed_key (holds vault.now).hash key.now group.now message.now }
+    ensures { result ≡ sealed_key (V.holds vault.now).hash key.now group.now message.now }
 {
     match *message {
         Message::Take { .. } => cover_key(vault, key, message, *group),
@@ -101,7 +101,7 @@ fn seal_key<V: Vault>(vault: &V, key: &[u8; 32], group: &[u8; 32], message: &Mes
 }
 
 fn cover_body<V: Vault>(vault: &V, key: &[u8; 32], message: &Message, body: [u8; 8]) -> [u8; 8]
-    ensures { result ≡ cover_of body (keystream_of (holds vault.now).hash key.now message.now 8) }
+    ensures { result ≡ cover_of body (keystream_of (V.holds vault.now).hash key.now message.now 8) }
 {
     let mut stream = [0; 8];
     keystream(vault, key, message, &mut stream);
@@ -111,7 +111,7 @@ fn cover_body<V: Vault>(vault: &V, key: &[u8; 32], message: &Message, body: [u8;
 }
 
 fn cover_key<V: Vault>(vault: &V, key: &[u8; 32], message: &Message, group: [u8; 32]) -> [u8; 32]
-    ensures { result ≡ cover_of group (keystream_of (holds vault.now).hash key.now message.now 32) }
+    ensures { result ≡ cover_of group (keystream_of (V.holds vault.now).hash key.now message.now 32) }
 {
     let mut stream = [0; 32];
     keystream(vault, key, message, &mut stream);
@@ -127,13 +127,13 @@ fn number(bytes: &[u8; 8]) -> u64
 }
 
 fn tag_of<V: Vault>(vault: &V, key: &[u8; 32], bytes: &[u8]) -> [u8; 16]
-    ensures { result ≡ tag_of (holds vault.now).hash key.now bytes.now }
+    ensures { result ≡ tag_of (V.holds vault.now).hash key.now bytes.now }
 {
     tag_digest(vault, key, bytes)
 }
 
 fn tag_digest<V: Vault>(vault: &V, key: &[u8; 32], bytes: &[u8]) -> [u8; 16]
-    ensures { result ≡ digest_of (holds vault.now).hash (codes "mark") key.now bytes.now 16 }
+    ensures { result ≡ digest_of (V.holds vault.now).hash (codes "mark") key.now bytes.now 16 }
 {
     let mut out = [0; 16];
     vault.digest(b"mark", key, bytes, &mut out);

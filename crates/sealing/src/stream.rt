@@ -9,14 +9,14 @@ use frame::{Direction, Message};
 
 /// As many bytes of a message's keystream as `out` has room for.
 pub(crate) fn keystream<V: Vault>(vault: &V, key: &[u8; 32], message: &Message, out: &mut [u8])
-    ensures { out.new ≡ keystream_of (holds vault.now).hash key.now message.now (length out.old) }
+    ensures { out.new ≡ keystream_of (V.holds vault.now).hash key.now message.now (length out.old) }
 {
     labelled(vault, key, message, out);
 }
 
 /// Label, key, direction and counter, hashed.
 fn labelled<V: Vault>(vault: &V, key: &[u8; 32], message: &Message, out: &mut [u8])
-    ensures { out.new ≡ digest_of (holds vault.now).hash (label_of message.now) key.now (stream_place (direction_byte message.now) (stream_counter message.now)) (length out.old) }
+    ensures { out.new ≡ digest_of (V.holds vault.now).hash (label_of message.now) key.now (stream_place (direction_byte message.now) (stream_counter message.now)) (length out.old) }
 {
     let place = stream_place(direction_byte(message), stream_counter(message));
     match *message {
