@@ -1,5 +1,5 @@
 -- What the code of an end answers, put together from what the rules gave and what was sealed.
-use Rattle.std.proofs.Common.{◌≡◌, ℕ, List, [], map, Some, None, Option, sym, refl, ap, ◌∙◌}
+use Rattle.std.proofs.Common.{◌≡◌, ℕ, List, [], map, Some, None, Option, sym, ap, ◌∙◌}
 use Rattle.frame.specs.declared.message.Message.{Message}
 use Rattle.frame.specs.declared.message.Refusal.{Refusal}
 use Rattle.octets.specs.declared.buffer.Octets.{Octets}

@@ -1,5 +1,5 @@
 -- No rule changes for how many peers an end holds something.
-use Rattle.std.proofs.Common.{◌≡◌, ℕ, ◌+◌, Bool, true, false, cond, ◌&&◌, ltb, List, length, set, replicate, Some, None, Option, refl, ◌∙◌, length-set}
+use Rattle.std.proofs.Common.{◌≡◌, ℕ, ◌+◌, Bool, true, false, cond, ◌&&◌, ltb, List, length, set, Some, None, Option, refl, length-set}
 use lib.ListN.{length-replicate}
 use Rattle.frame.specs.declared.message.Direction.TheVariants.{Up, Down}
 use Rattle.frame.specs.declared.message.Message.{Message}

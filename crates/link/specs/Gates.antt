@@ -1,5 +1,5 @@
 -- What a gate does with any bytes, and of itself.
-use Rattle.std.specs.Prelude.{ℕ, Bool, true, false, cond, not, ◌&&◌, List, [], ◌∷◌, length, replicate, Some, None, Ok, Err, Option, Result, slice_index_or, slice_set}
+use Rattle.std.specs.Prelude.{ℕ, true, cond, not, ◌&&◌, List, length, replicate, Some, None, Ok, Err, Option, Result, slice_index_or, slice_set}
 use Rattle.frame.specs.declared.message.Pair.{Pair}
 use Rattle.frame.specs.declared.message.Message.{Message}
 use Rattle.frame.specs.declared.message.Message.TheVariants.{Begin, Reply, Take, Taken, Renew, Load, All}
@@ -20,7 +20,7 @@ use Rattle.link.specs.declared.keys.PairKeys.{PairKeys}
 use Rattle.link.specs.declared.keys.HandKeys.{HandKeys}
 use Rattle.link.specs.declared.keys.TagKey.{TagKey}
 use Rattle.link.specs.declared.keys.TagKey.TheVariants.{Missing, Mismatch, Key}
-use Rattle.link.specs.Keys.{no_pair_keys, can_draw, Reception, refused, nothing, received, held_key, Heard, unopened, heard_by, tag_right}
+use Rattle.link.specs.Keys.{no_pair_keys, can_draw, Reception, refused, nothing, received, held_key, Heard, heard_by, tag_right}
 
 -- the gate's group key, and what it holds for each handheld
 pub record GateRing : Type 0 where

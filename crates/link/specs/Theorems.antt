@@ -1,5 +1,5 @@
 -- What holds of bytes: every run on bytes in which no tag was forged is a run on rows, and no keystream covers two texts.
-use Rattle.std.specs.Prelude.{◌≡◌, ℕ, ◌<◌, ◌≤◌, Bool, true, false, List, [], ◌∷◌, map, length, Some, None, Ok, Option}
+use Rattle.std.specs.Prelude.{◌≡◌, ℕ, ◌<◌, ◌≤◌, Bool, true, false, List, [], ◌∷◌, Some, None, Ok, Option}
 use Rattle.frame.specs.declared.message.Pair.{Pair}
 use Rattle.frame.specs.declared.message.Direction.TheVariants.{Up, Down}
 use Rattle.frame.specs.declared.message.Message.{Message}
@@ -15,13 +15,13 @@ use Rattle.protocol.specs.Held.{HandState, GateState, nonce_of, pair_of}
 use Rattle.protocol.specs.Rules.{limit, is_body}
 use Rattle.protocol.specs.Calls.{is_tagged}
 use Rattle.frame.specs.declared.message.Node.TheVariants.{Gate, Hand}
-use Rattle.protocol.specs.World.{Entry, World, start, gate, hand, Event, after}
+use Rattle.protocol.specs.World.{Entry, start, gate, hand, Event, after}
 use Rattle.protocol.specs.Promise.{Each, Key, Pairwise, Group, is_logged, gate_side, hand_side, StaysInUse}
 use Rattle.sealing.specs.Secrets.{Secrets, has_entropy}
 use Rattle.sealing.specs.Seal.{Sealed, stream_input, plaintext}
 use Rattle.link.specs.declared.keys.GateKeys.{GateKeys}
 use Rattle.link.specs.declared.keys.TagKey.TheVariants.{Missing}
-use Rattle.link.specs.Keys.{Reception, refused, nothing}
+use Rattle.link.specs.Keys.{Reception, refused}
 use Rattle.link.specs.Hands.{gate_keys, hand_tag_key, hand_hears_bytes}
 use Rattle.link.specs.Gates.{GateRing, hand_keys, gate_tag_key, gate_hears_bytes}
 use Rattle.link.specs.World.{Fleet, gate_secrets, hand_secrets, SealedEntry, ByteWorld, start_bytes, gate_ring, hand_ring, ByteEvent, GateDoes, HandDoes, GateHears, HandHears, happens_bytes, after_bytes, bytes_of, Unforged}

@@ -2,7 +2,6 @@
 use Rattle.std.specs.Prelude.{◌≡◌, ℕ, zero, suc, ◌+◌, Bool, true, false, cond, ◌||◌, List, [], ◌∷◌, map, length, replicate, Ok, nat_lt, slice_index_or, slice_set}
 use Rattle.frame.specs.declared.message.Node.{Node}
 use Rattle.frame.specs.declared.message.Node.TheVariants.{Gate, Hand}
-use Rattle.frame.specs.declared.message.Message.{Message}
 use Rattle.frame.specs.Row.{message_of}
 use Rattle.octets.specs.declared.parts.Cut.{Cut}
 use Rattle.octets.specs.Cutting.{cut}
