@@ -7,7 +7,6 @@ use Rattle.frame.specs.declared.message.Refusal.{Refusal}
 use Rattle.frame.specs.Row.{message_of}
 use Rattle.octets.specs.declared.parts.Cut.{Cut}
 use Rattle.octets.specs.Cutting.{cut}
-use Rattle.octets.specs.Laws.{row_of}
 use Rattle.protocol.specs.Held.{HandState}
 use Rattle.protocol.specs.Calls.{hand_verdict}
 use Rattle.sealing.specs.Secrets.{Secrets}

@@ -1,4 +1,4 @@
-use Rattle.std.proofs.Common.{◌≡◌, sym, ap, ◌∙◌}
+use Rattle.std.proofs.Common.{sym, ap, ◌∙◌}
 use Rattle.protocol.specs.declared.acts.HandAct.{HandAct}
 use Rattle.link.specs.Keys.{answer_of}
 use Rattle.link.specs.Hands.{hand_by_act, hand_keys_acted, hand_acts_bytes}

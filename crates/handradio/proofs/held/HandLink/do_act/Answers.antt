@@ -1,4 +1,4 @@
-use Rattle.std.proofs.Common.{◌≡◌, ℕ, List, length, take, None, sym, refl, ap, ◌∙◌, subst}
+use Rattle.std.proofs.Common.{◌≡◌, ℕ, length, take, None, sym, refl, ap, ◌∙◌}
 use Rattle.protocol.specs.Held.{HandState}
 use Rattle.protocol.specs.Rules.{Out}
 use Rattle.protocol.specs.Calls.{hand_does}

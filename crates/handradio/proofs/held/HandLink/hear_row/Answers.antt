@@ -1,10 +1,8 @@
-use Rattle.std.proofs.Common.{◌≡◌, ℕ, List, length, take, Some, None, Option, sym, refl, ap, ◌∙◌, subst}
-use Rattle.frame.specs.declared.message.Refusal.{Refusal}
+use Rattle.std.proofs.Common.{◌≡◌, ℕ, length, take, Some, None, sym, ap, ◌∙◌}
 use Rattle.protocol.specs.Held.{HandState}
 use Rattle.protocol.specs.Rules.{Out, quiet}
 use Rattle.protocol.specs.Calls.{hand_verdict, hand_hears_row}
 use Rattle.endpoint.specs.Effects.{out_of}
-use Rattle.handset.specs.declared.handset.Handset.{Handset}
 use Rattle.handset.specs.State.{state_of}
 use Rattle.link.specs.Hands.{hand_seals}
 use Rattle.link.proofs.Sizes.{hand_row_size}

@@ -1,4 +1,4 @@
-use Rattle.std.proofs.Common.{◌≡◌, ℕ, take, replicate, sym, refl, ap, ◌∙◌}
+use Rattle.std.proofs.Common.{ℕ, take, replicate, sym, refl, ap, ◌∙◌}
 use Rattle.link.specs.Hands.{no_gate_keys}
 use Rattle.link.proofs.Tables.{take_anew}
 use Rattle.handradio.proofs.held.HandLink.wipe.Goals as goal
