@@ -1,6 +1,5 @@
 -- An act done with the keys that it leaves.
 use Rattle.std.proofs.Common.{◌≡◌, ℕ, Bool, true, false, cond, length, replicate, sym, refl, ap, ◌∙◌}
-use Rattle.protocol.specs.declared.acts.GateAct.{GateAct}
 use Rattle.protocol.specs.declared.acts.GateAct.TheVariants.{Invite, SendDown, Broadcast, Rotate, Rekey, ForgetGate}
 use Rattle.protocol.specs.Held.{GateState}
 use Rattle.sealing.specs.Secrets.{Secrets}

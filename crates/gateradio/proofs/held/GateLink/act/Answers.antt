@@ -1,6 +1,5 @@
-use Rattle.std.proofs.Common.{◌≡◌, ℕ, ◌⊎◌, sym, ap, ◌∙◌, subst, inl, inr}
+use Rattle.std.proofs.Common.{◌≡◌, ℕ, sym, ap, ◌∙◌, subst, inl, inr}
 use Rattle.protocol.specs.declared.acts.GateAct.{GateAct}
-use Rattle.protocol.specs.declared.acts.GateAct.TheVariants.{SendDown, Broadcast, Rotate, Rekey}
 use Rattle.protocol.specs.Held.{GateState}
 use Rattle.sealing.specs.Secrets.{Secrets}
 use Rattle.link.specs.Keys.{answer_of}

@@ -1,4 +1,4 @@
-use Rattle.std.proofs.Common.{◌≡◌, ℕ, List, length, take, None, sym, refl, ap, ◌∙◌}
+use Rattle.std.proofs.Common.{◌≡◌, ℕ, List, length, None, sym, refl, ap, ◌∙◌}
 use Rattle.protocol.specs.Held.{GateState}
 use Rattle.protocol.specs.Rules.{Out}
 use Rattle.protocol.specs.Calls.{gate_does}

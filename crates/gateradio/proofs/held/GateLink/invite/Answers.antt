@@ -1,11 +1,11 @@
-use Rattle.std.proofs.Common.{◌≡◌, ℕ, List, ap, ◌∙◌}
+use Rattle.std.proofs.Common.{ℕ, List, ap, ◌∙◌}
 use Rattle.protocol.specs.declared.acts.GateAct.TheVariants.{Invite}
 use Rattle.gateway.specs.declared.gateway.Gateway.{Gateway}
 use Rattle.gateway.specs.State.{state_of}
 use Rattle.link.specs.declared.outcome.Outcome.{Outcome}
 use Rattle.link.specs.Keys.{answer_of}
 use Rattle.link.specs.Answers.{answered}
-use Rattle.link.specs.Gates.{GateRing, hand_keys, with_hand_keys, invited_keys, gate_by_act}
+use Rattle.link.specs.Gates.{hand_keys, with_hand_keys, invited_keys, gate_by_act}
 use Rattle.gateradio.specs.State.{held_in, ring_of}
 use Rattle.gateradio.proofs.Deeds.{not_invited, invited}
 use Rattle.gateradio.proofs.held.GateLink.invite.Goals as goal

@@ -1,11 +1,10 @@
 use Rattle.std.proofs.Common.{◌≡◌, ℕ, List, length, replicate, sym, ap, ◌∙◌, arith}
 use lib.ListN.{length-replicate}
 use Rattle.protocol.specs.Held.{GateState, new_hand_peer}
-use Rattle.sealing.specs.Secrets.{group_key}
 use Rattle.link.specs.declared.keys.HandKeys.{HandKeys}
 use Rattle.link.specs.Gates.{GateRing, no_hand_keys}
 use Rattle.link.proofs.Tables.{take_new}
-use Rattle.gateradio.proofs.Counts.{many_of, ring_at}
+use Rattle.gateradio.proofs.Counts.{many_of}
 use Rattle.gateradio.proofs.held.GateLink.new.Goals as goal
 
 pub returns : goal.returns

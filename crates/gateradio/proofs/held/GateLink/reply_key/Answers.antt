@@ -1,4 +1,4 @@
-use Rattle.std.proofs.Common.{◌≡◌, ap}
+use Rattle.std.proofs.Common.{ap}
 use Rattle.protocol.specs.declared.held.HandPeer.{HandPeer}
 use Rattle.protocol.specs.Held.{new_hand_peer}
 use Rattle.link.specs.Gates.{hand_keys, or_reply_key, gate_held_key}

@@ -1,4 +1,4 @@
-use Rattle.std.proofs.Common.{◌≡◌, ℕ, List, take, replicate, sym, refl, ap, ◌∙◌}
+use Rattle.std.proofs.Common.{ℕ, List, take, replicate, sym, refl, ap, ◌∙◌}
 use Rattle.link.specs.declared.keys.HandKeys.{HandKeys}
 use Rattle.link.specs.Gates.{GateRing, no_hand_keys}
 use Rattle.link.proofs.Tables.{take_anew}
