@@ -1,5 +1,5 @@
 -- Tests, lists, and what comes of a rule that changes nothing.
-use Rattle.std.proofs.Common.{◌≡◌, ℕ, zero, suc, ◌≤◌, Bool, true, false, cond, not, ◌&&◌, ◌||◌, T, ltb, List, [], ◌∷◌, map, length, get_or, set, Some, None, Option, sym, refl, ap, ◌∙◌, subst, arith}
+use Rattle.std.proofs.Common.{◌≡◌, ℕ, zero, suc, ◌≤◌, Bool, true, false, cond, not, ◌&&◌, ◌||◌, T, ltb, List, [], ◌∷◌, map, length, get_or, set, Some, None, Option, refl, ap, ◌∙◌, arith}
 use Rattle.frame.specs.declared.message.Refusal.{Refusal}
 use Rattle.protocol.specs.declared.held.GatePeer.{GatePeer}
 use Rattle.protocol.specs.declared.held.HandPeer.{HandPeer}

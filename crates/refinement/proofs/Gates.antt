@@ -1,7 +1,7 @@
 -- What a gate does with bytes is what it does with a row, and it keeps the key material of its pairs.
-use Rattle.std.proofs.Common.{◌≡◌, ℕ, ◌+◌, ◌^◌, ◌<◌, ◌≤◌, min, Bool, true, false, cond, not, ◌&&◌, T, eqb, ltb, ◌⊎◌, List, [], ◌∷◌, map, length, get_or, set, replicate, Some, None, Ok, Err, Option, Result, sym, refl, ap, ◌∙◌, subst, inl, inr, arith, eqb→eq, ltb→lt, length-set, get_or-set_same, ltb-false}
+use Rattle.std.proofs.Common.{◌≡◌, ℕ, ◌+◌, ◌^◌, ◌<◌, ◌≤◌, min, Bool, true, false, cond, not, ◌&&◌, T, eqb, ltb, ◌⊎◌, List, [], map, length, get_or, replicate, Some, None, Ok, Err, Option, Result, sym, refl, ap, ◌∙◌, subst, inl, inr, arith, eqb→eq, ltb→lt, length-set, get_or-set_same, ltb-false}
 use lib.ListN.{length-replicate}
-use Rattle.frame.specs.declared.message.Node.TheVariants.{Gate, Hand}
+use Rattle.frame.specs.declared.message.Node.TheVariants.{Gate}
 use Rattle.frame.specs.declared.message.Nonce.{Nonce}
 use Rattle.frame.specs.declared.message.Pair.{Pair}
 use Rattle.frame.specs.declared.message.Direction.TheVariants.{Up, Down}
@@ -23,7 +23,7 @@ use Rattle.protocol.specs.Rules.{Out, quiet, saying, within, limit, has_next, is
 use Rattle.protocol.specs.Calls.{is_for_gate, is_tagged, gate_verdict, unless, gate_hears_row, gate_does}
 use Rattle.protocol.specs.World.{Entry, is_sent, may_be_heard, hearer}
 use Rattle.protocol.specs.Promise.{Each}
-use Rattle.promise.proofs.Base.{and_l, and_r, cond_case, cond_yes, from_true, none_some, this→, In, each_map, Any, any_this, replicate_at}
+use Rattle.promise.proofs.Base.{and_l, and_r, cond_case, cond_yes, from_true, none_some, this→, each_map, Any, any_this, replicate_at}
 use Rattle.promise.proofs.Ends.{end_hears_lem}
 use Rattle.promise.proofs.Gates.{InLimits}
 use Rattle.sealing.specs.Secrets.{Secrets, pairwise_key, group_key, has_entropy, entropy_at}
@@ -32,15 +32,15 @@ use Rattle.link.specs.declared.keys.PairKeys.{PairKeys}
 use Rattle.link.specs.declared.keys.HandKeys.{HandKeys}
 use Rattle.link.specs.declared.keys.TagKey.{TagKey}
 use Rattle.link.specs.declared.keys.TagKey.TheVariants.{Missing, Mismatch, Key}
-use Rattle.link.specs.Keys.{can_draw, Reception, refused, nothing, received, held_key, Heard, unopened, tag_right, opened_with}
+use Rattle.link.specs.Keys.{can_draw, Reception, nothing, unopened, tag_right, opened_with}
 use Rattle.link.specs.Gates.{GateRing, no_hand_keys, hand_keys, with_hand_keys, invited_keys, replied_keys, confirmed_keys, or_reply_key, gate_held_key, gate_tag_key, gate_seals, replied_with, confirmed_with, gate_keys_after, gate_by_row, gate_tagged, gate_row, gate_cut, gate_hears_bytes, gate_nonce, gate_by_act, regrouped, gate_acts_bytes}
 use Rattle.link.specs.World.{Fleet, gate_secrets, SealedEntry, Genuine}
 use Rattle.link.specs.Theorems.{entries_of, Quiet}
 use Rattle.refinement.proofs.Base.{cond_true, set_same, set_past, put2, each_mapped, unless_wrong}
 use Rattle.refinement.proofs.Idle.{quiet_received, gate_missing}
 use Rattle.refinement.proofs.Refused.{verdict_ours, gate_row_is}
-use Rattle.refinement.proofs.Written.{pair_key, Named, GoodPair, GoodAs, Good, sealed_parts, parts_message, opened_is}
-use Rattle.refinement.proofs.Held.{HeldAs, held_good, key_of, held_is, nonce_is, nonce_length, AllGood, tagged_blank, accepted}
+use Rattle.refinement.proofs.Written.{pair_key, GoodAs, Good, sealed_parts, parts_message, opened_is}
+use Rattle.refinement.proofs.Held.{HeldAs, held_good, key_of, held_is, nonce_is, nonce_length, AllGood, accepted}
 use Rattle.refinement.proofs.Hands.{rightly}
 
 -- ---- what is held for one handheld, with its key material

@@ -1,7 +1,7 @@
 -- What a handheld does with bytes is what it does with a row, and it keeps the key material of its pairs.
-use Rattle.std.proofs.Common.{◌≡◌, ℕ, ◌+◌, ◌^◌, ◌<◌, ◌≤◌, min, Bool, true, false, cond, ◌&&◌, ◌||◌, T, eqb, ltb, ◌⊎◌, List, [], ◌∷◌, map, length, get_or, set, replicate, is_some, Some, None, Ok, Err, Option, Result, sym, refl, ap, ◌∙◌, subst, inl, inr, ⊎_elim, arith, eqb→eq, ltb→lt, length-set, get_or-set_same}
+use Rattle.std.proofs.Common.{◌≡◌, ℕ, ◌+◌, ◌^◌, ◌<◌, ◌≤◌, min, Bool, true, false, cond, ◌&&◌, ◌||◌, T, eqb, ltb, ◌⊎◌, List, map, length, set, replicate, is_some, Some, None, Ok, Err, Option, Result, sym, refl, ap, ◌∙◌, subst, inl, inr, arith, eqb→eq, ltb→lt, length-set, get_or-set_same}
 use lib.ListN.{length-replicate}
-use Rattle.frame.specs.declared.message.Node.TheVariants.{Gate, Hand}
+use Rattle.frame.specs.declared.message.Node.TheVariants.{Hand}
 use Rattle.frame.specs.declared.message.Nonce.{Nonce}
 use Rattle.frame.specs.declared.message.Pair.{Pair}
 use Rattle.frame.specs.declared.message.Direction.TheVariants.{Up, Down}
@@ -19,26 +19,26 @@ use Rattle.protocol.specs.declared.acts.HandAct.TheVariants.{SendUp, ForgetHand}
 use Rattle.protocol.specs.declared.held.Endpoint.{Endpoint}
 use Rattle.protocol.specs.declared.held.GatePeer.{GatePeer}
 use Rattle.protocol.specs.Held.{pair_of, is_this, installed, with_round, with_gate_end, new_gate_peer, HandState, nonce_of as nonce_numbers}
-use Rattle.protocol.specs.Rules.{Out, quiet, saying, delivering, within, limit, has_next, is_body, accepts, end_sends, end_sends_by, is_news, learns, hand_begin, hand_take, hand_renew, hand_load, hand_all, hand_send, gate_peer, hand_at, hand_hears}
+use Rattle.protocol.specs.Rules.{Out, quiet, saying, within, limit, has_next, is_body, accepts, end_sends_by, is_news, learns, hand_begin, hand_take, hand_renew, hand_load, hand_all, hand_send, gate_peer, hand_at, hand_hears}
 use Rattle.protocol.specs.Calls.{is_for_hand, is_tagged, hand_verdict, unless, hand_hears_row, hand_does}
 use Rattle.protocol.specs.World.{Entry, is_sent, may_be_heard, hearer}
 use Rattle.protocol.specs.Promise.{Each}
-use Rattle.promise.proofs.Base.{and_l, and_r, or_e, cond_case, cond_yes, from_true, none_some, this→, In, each_map, Any, any_this, put, replicate_at}
-use Rattle.promise.proofs.Ends.{end_hears_lem, end_sends_lem}
-use Rattle.sealing.specs.Secrets.{Secrets, pairwise_key, group_key, has_entropy, entropy_at}
+use Rattle.promise.proofs.Base.{and_l, and_r, cond_case, cond_yes, from_true, none_some, this→, each_map, Any, any_this, replicate_at}
+use Rattle.promise.proofs.Ends.{end_hears_lem}
+use Rattle.sealing.specs.Secrets.{Secrets, group_key, has_entropy, entropy_at}
 use Rattle.sealing.specs.Seal.{Sealed, sealed_body, sealed_key, tag_of, tagged_bytes}
 use Rattle.link.specs.declared.keys.PairKeys.{PairKeys}
 use Rattle.link.specs.declared.keys.GateKeys.{GateKeys}
 use Rattle.link.specs.declared.keys.TagKey.{TagKey}
 use Rattle.link.specs.declared.keys.TagKey.TheVariants.{Missing, Mismatch, Key}
-use Rattle.link.specs.Keys.{can_draw, Reception, refused, nothing, received, held_key, Heard, unopened, heard_by, tag_right, opened_with, group_with}
+use Rattle.link.specs.Keys.{can_draw, Reception, nothing, held_key, Heard, unopened, tag_right, opened_with, group_with}
 use Rattle.link.specs.Hands.{no_gate_keys, gate_keys, with_offered_keys, installed_keys, learns_key, hand_tag_key, hand_seals, took_keys, renewed_keys, hand_keys_after, hand_by_row, hand_nonce, begun_keys, hand_tagged, hand_message, hand_row, hand_cut, hand_hears_bytes, hand_keys_acted}
-use Rattle.link.specs.World.{Fleet, gate_secrets, hand_secrets, SealedEntry, is_said, Genuine}
+use Rattle.link.specs.World.{Fleet, gate_secrets, hand_secrets, SealedEntry, Genuine}
 use Rattle.link.specs.Theorems.{entries_of, Quiet}
 use Rattle.refinement.proofs.Base.{cond_true, set_same, put2, each_mapped, unless_wrong}
-use Rattle.refinement.proofs.Idle.{quiet_received, hand_by_tag, hand_missing}
+use Rattle.refinement.proofs.Idle.{quiet_received, hand_missing}
 use Rattle.refinement.proofs.Refused.{verdict_ours, hand_row_is}
-use Rattle.refinement.proofs.Written.{pair_key, same_key, Named, GoodPair, GoodAs, Good, sealed_parts, parts_message, opened_is, take_opened, renew_opened}
+use Rattle.refinement.proofs.Written.{pair_key, same_key, GoodPair, GoodAs, Good, sealed_parts, parts_message, opened_is, take_opened, renew_opened}
 use Rattle.refinement.proofs.Held.{HeldAs, held_good, key_of, held_is, nonce_is, nonce_length, AllGood, tagged_blank, accepted, begin_cut}
 
 -- ---- what is held for one gate, with its key material

@@ -1,29 +1,28 @@
 -- What is held beside the rules is the key material of the pairs that they hold, and what is accepted was said.
-use Rattle.std.proofs.Common.{◌≡◌, ℕ, zero, suc, ◌+◌, ◌*◌, ◌^◌, ◌<◌, ◌≤◌, Bool, true, false, cond, ◌&&◌, ◌||◌, T, eqb, ltb, ◌⊎◌, List, [], ◌∷◌, ◌++◌, length, get_or, take, drop, set, Some, None, Ok, Err, Option, Result, sym, refl, ap, ◌∙◌, subst, inl, inr, ⊎_elim, arith, leb→le, length-append, length-drop, length-take, ltb-true, eqb-true}
+use Rattle.std.proofs.Common.{◌≡◌, ℕ, zero, suc, ◌+◌, ◌*◌, ◌^◌, ◌<◌, ◌≤◌, Bool, true, false, cond, ◌&&◌, T, eqb, ltb, List, [], ◌∷◌, length, Some, Ok, Err, Result, sym, refl, ap, ◌∙◌, subst, ⊎_elim, arith, leb→le, length-append, length-drop, length-take, ltb-true, eqb-true}
 use Rattle.frame.specs.declared.message.Nonce.{Nonce}
 use Rattle.frame.specs.declared.message.Pair.{Pair}
 use Rattle.frame.specs.declared.message.Message.{Message}
 use Rattle.frame.specs.declared.message.Message.TheVariants.{Begin, Reply, Take, Taken, Renew, Load, All}
 use Rattle.frame.specs.declared.message.Refusal.{Refusal}
 use Rattle.frame.specs.declared.message.Refusal.TheVariants.{NoRow}
-use Rattle.frame.specs.Row.{code, message_of}
+use Rattle.frame.specs.Row.{message_of}
 use Rattle.frame.proofs.Small.{and_left, and_right}
 use Rattle.octets.specs.declared.parts.Cut.{Cut}
 use Rattle.octets.specs.Low.{low_first, from_low}
 use Rattle.octets.specs.Layout.{layout, widths, total, nonce_of}
-use Rattle.octets.specs.Cutting.{cut, cut_as, cut_kind, fits}
-use Rattle.octets.specs.Laws.{parts_of, blank, row_of}
+use Rattle.octets.specs.Cutting.{cut, cut_kind, fits}
+use Rattle.octets.specs.Laws.{parts_of, row_of}
 use Rattle.octets.proofs.Low.{there, length_low}
 use Rattle.protocol.specs.declared.held.Endpoint.{Endpoint}
 use Rattle.protocol.specs.Held.{is_this, nonce_of as nonce_numbers}
 use Rattle.protocol.specs.Calls.{is_tagged}
 use Rattle.protocol.specs.World.{Entry}
 use Rattle.protocol.specs.Promise.{Each}
-use Rattle.promise.proofs.Base.{and_l, and_r, or_e, from_true, In, in_here, in_more, Any, any_this, this→}
+use Rattle.promise.proofs.Base.{and_l, and_r, or_e, In, in_here, in_more, Any, any_this, this→}
 use Rattle.sealing.specs.Secrets.{Secrets, group_key, nonce_bytes, entropy_at, has_entropy}
-use Rattle.sealing.specs.Seal.{Sealed, same_bytes, sealed_body, sealed_key}
+use Rattle.sealing.specs.Seal.{Sealed, same_bytes}
 use Rattle.link.specs.declared.keys.PairKeys.{PairKeys}
-use Rattle.link.specs.declared.keys.TagKey.{TagKey}
 use Rattle.link.specs.declared.keys.TagKey.TheVariants.{Missing, Mismatch, Key}
 use Rattle.link.specs.Keys.{matching, held_key}
 use Rattle.link.specs.World.{Fleet, gate_secrets, SealedEntry, bytes_of, is_said}

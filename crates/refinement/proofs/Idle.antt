@@ -1,5 +1,5 @@
 -- Without the key of its tag nothing comes of a message.
-use Rattle.std.proofs.Common.{◌≡◌, ℕ, Bool, true, false, cond, not, ◌&&◌, eqb, ltb, List, [], length, is_some, Some, None, Ok, Err, Option, Result, sym, refl, ap, ◌∙◌, subst, arith}
+use Rattle.std.proofs.Common.{◌≡◌, ℕ, Bool, true, false, cond, not, ◌&&◌, eqb, ltb, List, length, is_some, Some, None, Option, sym, refl, ap, ◌∙◌, subst, arith}
 use Rattle.frame.specs.declared.message.Pair.{Pair}
 use Rattle.frame.specs.declared.message.Direction.{Direction}
 use Rattle.frame.specs.declared.message.Direction.TheVariants.{Up, Down}
@@ -8,7 +8,6 @@ use Rattle.frame.specs.declared.message.Message.TheVariants.{Begin, Reply, Take,
 use Rattle.frame.specs.declared.message.Refusal.{Refusal}
 use Rattle.frame.specs.Row.{message_of}
 use Rattle.octets.specs.declared.parts.Cut.{Cut}
-use Rattle.octets.specs.Cutting.{cut}
 use Rattle.octets.specs.Laws.{row_of}
 use Rattle.protocol.specs.declared.held.Endpoint.{Endpoint}
 use Rattle.protocol.specs.declared.held.GatePeer.{GatePeer}
@@ -23,9 +22,9 @@ use Rattle.link.specs.declared.keys.GateKeys.{GateKeys}
 use Rattle.link.specs.declared.keys.HandKeys.{HandKeys}
 use Rattle.link.specs.declared.keys.TagKey.{TagKey}
 use Rattle.link.specs.declared.keys.TagKey.TheVariants.{Missing, Mismatch, Key}
-use Rattle.link.specs.Keys.{Reception, refused, received, matching, held_key, unopened}
-use Rattle.link.specs.Hands.{gate_keys, hand_tag_key, hand_seals, hand_by_row, hand_tagged, hand_message, hand_row, hand_cut, hand_hears_bytes}
-use Rattle.link.specs.Gates.{GateRing, hand_keys, reply_key, or_reply_key, gate_held_key, gate_tag_key, gate_seals, gate_by_row, gate_tagged, gate_row, gate_cut, gate_hears_bytes}
+use Rattle.link.specs.Keys.{received, held_key}
+use Rattle.link.specs.Hands.{gate_keys, hand_tag_key, hand_seals, hand_tagged, hand_message, hand_row, hand_cut, hand_hears_bytes}
+use Rattle.link.specs.Gates.{GateRing, hand_keys, or_reply_key, gate_held_key, gate_tag_key, gate_seals, gate_tagged, gate_row, gate_cut, gate_hears_bytes}
 use Rattle.link.specs.Theorems.{Quiet, NothingWithoutKey}
 use Rattle.refinement.proofs.Base.{cond_false, and_false, hand_stays, gate_stays, unless_quiet}
 

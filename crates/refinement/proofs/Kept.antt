@@ -1,13 +1,12 @@
 -- What is promised of rows holds of bytes.
-use Rattle.std.proofs.Common.{◌≡◌, ℕ, List, [], ◌∷◌, sym, refl, ap, ◌∙◌, subst, subst₂}
-use Rattle.frame.specs.declared.message.Pair.{Pair}
+use Rattle.std.proofs.Common.{List, [], ◌∷◌, sym, ap, ◌∙◌, subst, subst₂}
 use Rattle.protocol.specs.World.{World, start, Event, happens, after}
 use Rattle.protocol.specs.Promise.{gate_side, hand_side, StaysInUse}
 use Rattle.promise.specs.Reach.{Reached, Kept}
 use Rattle.promise.proofs.Once.{installed_once}
 use Rattle.promise.proofs.Reach.{reached_start, reached_more, kept}
-use Rattle.link.specs.World.{Fleet, ByteWorld, start_bytes, ByteEvent, after_bytes, Unforged}
-use Rattle.link.specs.Theorems.{Nameable, InstalledOnceBytes}
+use Rattle.link.specs.World.{ByteWorld, start_bytes, after_bytes}
+use Rattle.link.specs.Theorems.{InstalledOnceBytes}
 use Rattle.refinement.specs.Kept.{EachEventRefines, KeptBytes}
 use Rattle.refinement.proofs.Worlds.{start_inv, step, run}
 

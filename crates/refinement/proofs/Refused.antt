@@ -1,5 +1,5 @@
 -- Refused bytes change nothing.
-use Rattle.std.proofs.Common.{◌≡◌, ℕ, min, Bool, true, false, cond, List, [], length, set, Some, None, Ok, Err, Option, Result, sym, refl, ap, ◌∙◌, subst, arith}
+use Rattle.std.proofs.Common.{◌≡◌, ℕ, min, Bool, true, false, cond, List, length, set, Some, None, Ok, Err, Option, Result, sym, refl, ap, ◌∙◌}
 use Rattle.frame.specs.declared.message.Message.{Message}
 use Rattle.frame.specs.declared.message.Message.TheVariants.{Begin, Reply, Take, Taken, Renew, Load, All}
 use Rattle.frame.specs.declared.message.Refusal.{Refusal}
@@ -10,7 +10,7 @@ use Rattle.octets.specs.Cutting.{cut}
 use Rattle.octets.specs.Laws.{row_of, with_body}
 use Rattle.protocol.specs.Held.{HandState, GateState}
 use Rattle.protocol.specs.Rules.{Out}
-use Rattle.protocol.specs.Calls.{is_for_hand, is_for_gate, is_tagged, verdict, unless, hand_verdict, gate_verdict, hand_hears_row, gate_hears_row}
+use Rattle.protocol.specs.Calls.{is_for_hand, is_for_gate, verdict, unless, hand_verdict, gate_verdict, hand_hears_row, gate_hears_row}
 use Rattle.promise.proofs.Base.{none_some, some_inj}
 use Rattle.sealing.specs.Secrets.{Secrets}
 use Rattle.sealing.specs.Seal.{Sealed, opened_body}
@@ -18,7 +18,7 @@ use Rattle.link.specs.declared.keys.PairKeys.{PairKeys}
 use Rattle.link.specs.declared.keys.GateKeys.{GateKeys}
 use Rattle.link.specs.declared.keys.TagKey.{TagKey}
 use Rattle.link.specs.declared.keys.TagKey.TheVariants.{Missing, Mismatch, Key}
-use Rattle.link.specs.Keys.{Reception, refused, nothing, received, Heard, unopened, heard_by, tag_right, opened_with, group_with, can_draw}
+use Rattle.link.specs.Keys.{Reception, refused, nothing, received, Heard, unopened, tag_right, opened_with, group_with, can_draw}
 use Rattle.link.specs.Hands.{gate_keys, with_offered_keys, begun_keys, hand_tag_key, hand_keys_after, hand_by_row, hand_tagged, hand_message, hand_row, hand_cut, hand_hears_bytes}
 use Rattle.link.specs.Gates.{GateRing, gate_tag_key, gate_keys_after, gate_by_row, gate_tagged, gate_row, gate_cut, gate_hears_bytes}
 use Rattle.link.specs.Theorems.{RefusedBytesAreQuiet}

@@ -1,5 +1,5 @@
 -- No keystream covers two texts.
-use Rattle.std.proofs.Common.{◌≡◌, ℕ, ◌^◌, ◌<◌, Bool, true, false, List, [], ◌∷◌, ◌++◌, length, get_or, take, drop, Some, None, codes, Option, sym, refl, ap, ◌∙◌, subst, arith}
+use Rattle.std.proofs.Common.{◌≡◌, ℕ, ◌^◌, ◌<◌, true, false, List, [], ◌∷◌, ◌++◌, length, get_or, take, drop, codes, sym, refl, ap, ◌∙◌, subst, arith}
 use lib.Seq.{take-append_seam, drop-append_seam}
 use Rattle.frame.specs.declared.message.Pair.{Pair}
 use Rattle.frame.specs.declared.message.Direction.{Direction}
@@ -9,14 +9,13 @@ use Rattle.frame.specs.declared.message.Message.TheVariants.{Begin, Reply, Take,
 use Rattle.frame.specs.Row.{flag}
 use Rattle.octets.specs.Low.{low_first, from_low}
 use Rattle.octets.proofs.Low.{there, length_low}
-use Rattle.protocol.specs.World.{Entry}
-use Rattle.protocol.specs.Promise.{Each, Distinct, Key, Pairwise, Group, Frames, Renewals, Seal, seals_of, seals_in}
+use Rattle.protocol.specs.Promise.{Each, Distinct, Pairwise, Group, Frames, Renewals, Seal, seals_of, seals_in}
 use Rattle.promise.proofs.Base.{each_map, each_both, some_inj}
 use Rattle.sealing.specs.Secrets.{group_key}
 use Rattle.sealing.specs.Seal.{Sealed, label_of, direction_byte, stream_counter, stream_input, plaintext}
 use Rattle.link.specs.World.{Fleet, gate_secrets, SealedEntry, start_bytes, after_bytes}
 use Rattle.link.specs.Theorems.{entries_of, Pairs, key_name, is_sealed, Apart, KeysApart, is_take, OneText, StreamsOnce}
-use Rattle.refinement.proofs.Written.{pair_key, length-pair_key, length-group_key, flag_small, GoodPair, GoodAs, Good}
+use Rattle.refinement.proofs.Written.{length-pair_key, length-group_key, flag_small, GoodPair, GoodAs, Good}
 use Rattle.refinement.proofs.Held.{AllGood}
 use Rattle.refinement.proofs.Worlds.{start_inv, run}
 

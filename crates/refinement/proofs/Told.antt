@@ -1,38 +1,36 @@
 -- Bytes that were said, heard by an end that has their key, are heard as the message that they were said as.
-use Rattle.std.proofs.Common.{◌≡◌, ℕ, ◌<◌, min, Bool, true, false, cond, ◌||◌, T, List, [], ◌∷◌, length, set, Some, None, Ok, Err, Option, Result, sym, refl, ap, ◌∙◌, subst, arith}
+use Rattle.std.proofs.Common.{◌≡◌, ℕ, min, Bool, true, false, T, List, [], ◌∷◌, length, set, None, sym, refl, ap, ◌∙◌, subst, arith}
 use Rattle.frame.specs.declared.message.Nonce.{Nonce}
 use Rattle.frame.specs.declared.message.Message.{Message}
 use Rattle.frame.specs.declared.message.Message.TheVariants.{Begin, Reply, Take, Taken, Renew, Load, All}
-use Rattle.frame.specs.declared.message.Refusal.{Refusal}
 use Rattle.frame.specs.Row.{code, is_small, is_message, message_of}
 use Rattle.frame.proofs.RoundTrip.{message_of-code, code-is_message}
 use Rattle.octets.specs.declared.parts.Cut.{Cut}
-use Rattle.octets.specs.Cutting.{cut}
 use Rattle.octets.specs.Laws.{blank, parts_of, row_of}
 use Rattle.protocol.specs.declared.acts.HandAct.{HandAct}
 use Rattle.protocol.specs.declared.acts.GateAct.{GateAct}
 use Rattle.protocol.specs.Held.{HandState, GateState}
-use Rattle.protocol.specs.Rules.{Out, hand_hears, gate_hears}
-use Rattle.protocol.specs.Calls.{is_for_hand, is_for_gate, is_tagged, verdict, hand_verdict, gate_verdict, hand_hears_row, gate_hears_row, hand_does, gate_does}
-use Rattle.protocol.specs.World.{Entry, gate, hand, may_be_heard, is_sent, put_gate, put_hand, Event, GateActs, HandActs, Hears, happens}
-use Rattle.promise.proofs.Base.{or_l, cond_case, cond_yes, is_true, from_true, In, in_here}
+use Rattle.protocol.specs.Rules.{hand_hears, gate_hears}
+use Rattle.protocol.specs.Calls.{is_for_hand, is_for_gate, is_tagged, verdict, hand_verdict, gate_verdict, hand_does, gate_does}
+use Rattle.protocol.specs.World.{gate, hand, may_be_heard, is_sent, put_gate, put_hand, Event, GateActs, HandActs, Hears, happens}
+use Rattle.promise.proofs.Base.{or_l, cond_case, is_true, from_true, In, in_here}
 use Rattle.sealing.specs.Secrets.{Secrets}
 use Rattle.sealing.specs.Seal.{Sealed, same_bytes, octets_sealed}
 use Rattle.link.specs.declared.keys.PairKeys.{PairKeys}
 use Rattle.link.specs.declared.keys.GateKeys.{GateKeys}
 use Rattle.link.specs.declared.keys.TagKey.{TagKey}
-use Rattle.link.specs.declared.keys.TagKey.TheVariants.{Missing, Mismatch, Key}
-use Rattle.link.specs.Keys.{can_draw, Reception, nothing, received, unopened}
-use Rattle.link.specs.Hands.{gate_keys, with_offered_keys, hand_tag_key, hand_seals, hand_keys_after, hand_by_row, begun_keys, hand_tagged, hand_message, hand_row, hand_cut, hand_hears_bytes, hand_keys_acted, hand_acts_bytes}
-use Rattle.link.specs.Gates.{GateRing, gate_tag_key, gate_seals, gate_keys_after, gate_by_row, gate_tagged, gate_row, gate_cut, gate_hears_bytes, gate_by_act, gate_acts_bytes}
+use Rattle.link.specs.declared.keys.TagKey.TheVariants.{Key}
+use Rattle.link.specs.Keys.{can_draw, nothing, received, unopened}
+use Rattle.link.specs.Hands.{gate_keys, with_offered_keys, hand_tag_key, hand_seals, hand_keys_after, hand_by_row, begun_keys, hand_tagged, hand_row, hand_cut, hand_hears_bytes, hand_keys_acted, hand_acts_bytes}
+use Rattle.link.specs.Gates.{GateRing, gate_tag_key, gate_seals, gate_keys_after, gate_tagged, gate_row, gate_cut, gate_hears_bytes, gate_by_act, gate_acts_bytes}
 use Rattle.link.specs.World.{Fleet, gate_secrets, hand_secrets, SealedEntry, ByteWorld, gate_ring, hand_ring, put_gate_bytes, put_hand_bytes, GateDoes, HandDoes, GateHears, HandHears, is_gate, is_hand, happens_bytes, bytes_of, is_said, Genuine}
 use Rattle.link.specs.Theorems.{entries_of, latest, tell_hand, tell_gate}
 use Rattle.refinement.proofs.Base.{cond_true}
 use Rattle.refinement.proofs.Idle.{hand_by_tag}
 use Rattle.refinement.proofs.Written.{bytes_refl, Good, sealed_parts, sealed_cut, tag_right_lem}
 use Rattle.refinement.proofs.Held.{AllGood, tagged_blank}
-use Rattle.refinement.proofs.Hands.{rightly, HandB, for_hand_blank, hears_hand, hand_row_heard, hand_accepts}
-use Rattle.refinement.proofs.Gates.{GateB, for_gate_blank, hears_gate, gate_row_heard, gate_accepts}
+use Rattle.refinement.proofs.Hands.{for_hand_blank, hears_hand, hand_row_heard, hand_accepts}
+use Rattle.refinement.proofs.Gates.{for_gate_blank, hears_gate, gate_row_heard, gate_accepts}
 use Rattle.refinement.proofs.Worlds.{Inv, step, gate_out, hand_out, gate_event, gate_act_event, hand_event, hand_act_event, lt, gate_few, near_gate, hand_few, near_hand}
 
 -- ---- what was said last

@@ -1,5 +1,5 @@
 -- From any state of a run on bytes there is a way on.
-use Rattle.std.proofs.Common.{◌≡◌, ℕ, ◌+◌, ◌^◌, ◌<◌, ◌≤◌, Bool, true, false, cond, not, ◌&&◌, T, eqb, ltb, List, [], ◌∷◌, map, length, get_or, set, Some, None, Option, sym, refl, ap, ◌∙◌, subst, subst₂, arith, ltb→lt, lt→ltb, length-set, get_or-set_same}
+use Rattle.std.proofs.Common.{◌≡◌, ℕ, ◌+◌, ◌^◌, ◌<◌, ◌≤◌, Bool, true, false, cond, not, ◌&&◌, T, eqb, ltb, List, [], ◌∷◌, map, length, set, Some, None, sym, refl, ap, ◌∙◌, subst, subst₂, arith, ltb→lt, lt→ltb, length-set, get_or-set_same}
 use borrow.Author.Tests.{not-true}
 use lib.Dec.{eqb_refl}
 use lib.ListN.{length-replicate}
@@ -20,7 +20,7 @@ use Rattle.protocol.specs.Held.{nonce_of, pair_of, is_this, with_offered, with_s
 use Rattle.protocol.specs.Rules.{Out, quiet, saying, within, limit, has_next, is_body, end_sends, learns, hand_begin, hand_take, hand_send, gate_peer, hand_at, hand_hears, answers, gate_invite, gate_reply, gate_taken, gate_send, hand_peer, gate_at, gate_hears, gate_acts}
 use Rattle.protocol.specs.Calls.{gate_does, hand_does}
 use Rattle.protocol.specs.World.{World, start, gate, hand, Event, GateActs, HandActs, Hears, happens, after}
-use Rattle.protocol.specs.Promise.{Each, is_logged, gate_side, hand_side, handshake, Joined}
+use Rattle.protocol.specs.Promise.{Each, is_logged, handshake, Joined}
 use Rattle.promise.proofs.Base.{and_i, cond_yes, is_true, from_true, eqb←, nonce_refl, this←}
 use Rattle.promise.proofs.Ends.{with_gate_peer, with_hand_peer}
 use Rattle.promise.proofs.Gates.{answer_not_in_use}
@@ -30,21 +30,20 @@ use Rattle.promise.proofs.Keeps.{no_gate, no_hand}
 use Rattle.promise.proofs.Reach.{sized_happens}
 use Rattle.promise.proofs.Way.{way_on_of}
 use Rattle.sealing.specs.Secrets.{Secrets, pairwise_key, group_key, has_entropy, entropy_at, nonce_bytes}
-use Rattle.sealing.specs.Seal.{Sealed, noughts, same_bytes}
+use Rattle.sealing.specs.Seal.{noughts, same_bytes}
 use Rattle.link.specs.declared.keys.PairKeys.{PairKeys}
 use Rattle.link.specs.declared.keys.GateKeys.{GateKeys}
 use Rattle.link.specs.declared.keys.HandKeys.{HandKeys}
-use Rattle.link.specs.declared.keys.TagKey.{TagKey}
 use Rattle.link.specs.declared.keys.TagKey.TheVariants.{Missing, Mismatch, Key}
-use Rattle.link.specs.Keys.{can_draw, Reception, received, matching, held_key}
-use Rattle.link.specs.Hands.{no_gate_keys, gate_keys, with_offered_keys, installed_keys, learns_key, hand_tag_key, sealed_by, hand_seals, took_keys, hand_keys_after, begun_keys}
-use Rattle.link.specs.Gates.{GateRing, no_hand_keys, hand_keys, with_hand_keys, invited_keys, replied_keys, confirmed_keys, or_reply_key, reply_key, gate_held_key, gate_tag_key, sealed_carrying, begun_by, broadcast_by, gate_seals, gate_keys_after, gate_nonce, gate_by_act, gate_acts_bytes}
+use Rattle.link.specs.Keys.{can_draw, received, matching, held_key}
+use Rattle.link.specs.Hands.{no_gate_keys, gate_keys, with_offered_keys, installed_keys, learns_key, hand_tag_key, sealed_by, hand_seals, hand_keys_after, begun_keys}
+use Rattle.link.specs.Gates.{GateRing, no_hand_keys, hand_keys, with_hand_keys, invited_keys, replied_keys, confirmed_keys, or_reply_key, gate_held_key, gate_tag_key, sealed_carrying, begun_by, broadcast_by, gate_seals, gate_keys_after, gate_nonce, gate_by_act, gate_acts_bytes}
 use Rattle.link.specs.World.{Fleet, gate_secrets, hand_secrets, SealedEntry, ByteWorld, no_ring, gate_ring, hand_ring, said_by, put_gate_bytes, put_hand_bytes, start_bytes, GateDoes, HandDoes, happens_bytes, after_bytes}
 use Rattle.link.specs.Theorems.{tell_hand, tell_gate, handshake_bytes, JoinedBytes, WayOnBytes}
 use Rattle.refinement.proofs.Base.{cond_true, cond_false}
 use Rattle.refinement.proofs.Written.{bytes_refl, same_key}
 use Rattle.refinement.proofs.Worlds.{Inv, start_inv, run}
-use Rattle.refinement.proofs.Told.{sealed_as, Latest, Becomes, hand_told, begin_told, gate_told, gate_did, hand_did}
+use Rattle.refinement.proofs.Told.{Latest, Becomes, hand_told, begin_told, gate_told, gate_did, hand_did}
 
 -- ---- what is known of a world: of gate i and of handheld j, of their key material, and of what was said last
 

@@ -1,5 +1,5 @@
 -- A run on bytes is a run on rows.
-use Rattle.std.proofs.Common.{◌≡◌, ℕ, zero, suc, ◌+◌, ◌<◌, ◌≤◌, Bool, true, cond, T, ltb, ◌⊎◌, List, [], ◌∷◌, map, length, get_or, set, replicate, Some, None, Option, sym, refl, ap, ◌∙◌, subst, subst₂, inl, inr, ⊎_elim, zero-add, arith, ltb→lt, length-set}
+use Rattle.std.proofs.Common.{◌≡◌, ℕ, zero, suc, ◌+◌, ◌<◌, ◌≤◌, true, T, ltb, ◌⊎◌, List, [], ◌∷◌, map, length, get_or, set, replicate, None, Option, sym, refl, ap, ◌∙◌, subst, subst₂, inl, inr, ⊎_elim, zero-add, arith, ltb→lt, length-set}
 use lib.ListN.{length-replicate}
 use Rattle.frame.specs.declared.message.Node.{Node}
 use Rattle.frame.specs.declared.message.Node.TheVariants.{Gate, Hand}
@@ -12,23 +12,23 @@ use Rattle.protocol.specs.declared.acts.GateAct.{GateAct}
 use Rattle.protocol.specs.Held.{HandState, new_hand, GateState, new_gate}
 use Rattle.protocol.specs.Rules.{Out}
 use Rattle.protocol.specs.Calls.{gate_hears_row, hand_hears_row, gate_does, hand_does}
-use Rattle.protocol.specs.World.{World, start, gate, hand, logged, put_gate, put_hand, heard_by, may_be_heard, hearer, Event, GateActs, HandActs, Hears, happens, after}
+use Rattle.protocol.specs.World.{World, gate, hand, logged, put_gate, put_hand, heard_by, may_be_heard, hearer, Event, GateActs, HandActs, Hears, happens, after}
 use Rattle.protocol.specs.Promise.{Each}
-use Rattle.promise.proofs.Base.{cond_case, replicate_has, replicate_in}
+use Rattle.promise.proofs.Base.{cond_case, replicate_in}
 use Rattle.promise.proofs.Invariant.{Inv as RowInv}
 use Rattle.promise.proofs.Keeps.{no_gate, no_hand, happens_keeps, always}
 use Rattle.sealing.specs.Seal.{Sealed}
 use Rattle.link.specs.declared.keys.GateKeys.{GateKeys}
 use Rattle.link.specs.Keys.{Reception, received}
-use Rattle.link.specs.Hands.{no_gate_keys, hand_seals, hand_by_row, hand_keys_acted, hand_hears_bytes, hand_acts_bytes}
-use Rattle.link.specs.Gates.{GateRing, new_ring, gate_seals, gate_by_row, gate_by_act, gate_hears_bytes, gate_acts_bytes}
-use Rattle.link.specs.World.{Fleet, gate_secrets, hand_secrets, SealedEntry, ByteWorld, rings_from, start_bytes, no_ring, gate_ring, hand_ring, out_of, said_by, put_gate_bytes, put_hand_bytes, ByteEvent, GateDoes, HandDoes, GateHears, HandHears, is_gate, is_hand, happens_bytes, after_bytes, NotForged, Unforged}
+use Rattle.link.specs.Hands.{no_gate_keys, hand_seals, hand_by_row, hand_keys_acted, hand_acts_bytes}
+use Rattle.link.specs.Gates.{GateRing, new_ring, gate_seals, gate_by_row, gate_by_act}
+use Rattle.link.specs.World.{Fleet, gate_secrets, SealedEntry, ByteWorld, rings_from, start_bytes, no_ring, gate_ring, hand_ring, out_of, said_by, put_gate_bytes, put_hand_bytes, ByteEvent, GateDoes, HandDoes, GateHears, HandHears, is_gate, is_hand, happens_bytes, after_bytes, NotForged, Unforged}
 use Rattle.link.specs.Theorems.{Nameable, entries_of, Refines, Quiet}
 use Rattle.refinement.proofs.Base.{cond_true, set_same, put2}
 use Rattle.refinement.proofs.Written.{Good}
 use Rattle.refinement.proofs.Held.{AllGood}
-use Rattle.refinement.proofs.Hands.{HandB, HandKeeps, HandHeard, rightly, hand_hears_bytes_lem, hand_acts_keep, new_hand_lem}
-use Rattle.refinement.proofs.Gates.{GateB, GateKeeps, GateHeard, GateActed, gate_hears_bytes_lem, gate_acts_bytes_lem, new_gate_lem}
+use Rattle.refinement.proofs.Hands.{HandB, HandHeard, rightly, hand_hears_bytes_lem, hand_acts_keep, new_hand_lem}
+use Rattle.refinement.proofs.Gates.{GateB, GateHeard, GateActed, gate_hears_bytes_lem, gate_acts_bytes_lem, new_gate_lem}
 
 -- each end holds the key material of its pairs, and what was said is sealed as it should be
 pub record Inv (F : Fleet) (w : ByteWorld) : Type 0 where

@@ -1,5 +1,5 @@
 -- A sealed message in bytes: it is cut into its parts, and opens to what was sealed.
-use Rattle.std.proofs.Common.{◌≡◌, ℕ, zero, suc, ◌^◌, ◌<◌, Bool, true, false, ◌&&◌, T, eqb, List, [], ◌∷◌, ◌++◌, length, get_or, take, drop, Ok, sym, refl, ap, ◌∙◌, subst, arith, eqb→eq}
+use Rattle.std.proofs.Common.{◌≡◌, ℕ, suc, ◌^◌, ◌<◌, true, T, eqb, List, [], ◌∷◌, ◌++◌, length, get_or, take, drop, Ok, sym, refl, ap, ◌∙◌, subst, arith, eqb→eq}
 use lib.Bits.{bit_xor, xor_assoc, xor_self, xor_zero_r}
 use lib.Dec.{eqb_refl}
 use lib.Seq.{take-append_seam}
@@ -19,7 +19,7 @@ use Rattle.octets.proofs.Fields.{Lens, long}
 use Rattle.octets.proofs.RoundTrip.{written_is_cut}
 use Rattle.protocol.specs.Calls.{is_tagged}
 use Rattle.promise.proofs.Base.{and_l, and_r, and_i}
-use Rattle.sealing.specs.Secrets.{Hash, digest, pairwise_key, group_key}
+use Rattle.sealing.specs.Secrets.{digest, pairwise_key, group_key}
 use Rattle.sealing.specs.Seal.{Sealed, same_bytes, cover, keystream, sealed_body, sealed_key, tag_of, tagged_bytes, octets_sealed}
 use Rattle.link.specs.Keys.{tag_right, opened_with, group_with}
 use Rattle.link.specs.World.{Fleet, gate_secrets, hand_secrets}
