@@ -22,7 +22,7 @@ const HANDS: u16 = 512;
 impl GateLink {
     /// Nothing is held yet but the first group key, for so many handhelds; none where they are too many.
     pub fn new<V: Vault>(vault: &V, hands: u16) -> Option<GateLink>
-        ensures { elim result [ Some l ↦ (hands ≤ 512) × (held_in l ≡ new_gate hands) × (ring_of l ≡ new_ring (V.Vault.holds vault.now) hands) | None ↦ 512 < hands ] }
+        ensures { elim result [ Some l ↦ (hands ≤ 512) × (held_in l ≡ new_gate hands) × (ring_of l ≡ new_ring (V.holds vault.now) hands) | None ↦ 512 < hands ] }
     {
         if hands > HANDS {
             return None;
@@ -37,7 +37,7 @@ impl GateLink {
 
     /// The next nonce in bytes, while there is one, and entropy for it.
     fn draw<V: Vault>(&self, vault: &V, g: u8) -> Option<[u8; 32]>
-        ensures { elim result [ Some a ↦ (can_draw (V.Vault.holds vault.now) self.now.end.draws ≡ true) × (a ≡ gate_nonce (V.Vault.holds vault.now) g (held_in self.now)) | None ↦ can_draw (V.Vault.holds vault.now) self.now.end.draws ≡ false ] }
+        ensures { elim result [ Some a ↦ (can_draw (V.holds vault.now) self.now.end.draws ≡ true) × (a ≡ gate_nonce (V.holds vault.now) g (held_in self.now)) | None ↦ can_draw (V.holds vault.now) self.now.end.draws ≡ false ] }
     {
         if self.end.draws >= LIMIT {
             return None;
@@ -61,7 +61,7 @@ impl GateLink {
 
     /// What the rules say of an act, sealed with the keys that are held.
     fn do_act<V: Vault>(&mut self, vault: &V, g: u8, act: GateAct) -> Outcome
-        ensures { answered result (held_in self.new) (ring_of self.new) ≡ answer_of (V.Vault.holds vault.now).hash (gate_by_act g act (held_in self.old) (ring_of self.old)) }
+        ensures { answered result (held_in self.new) (ring_of self.new) ≡ answer_of (V.holds vault.now).hash (gate_by_act g act (held_in self.old) (ring_of self.old)) }
     {
         let hands = self.end.many;
         let effect = self.end.do_act(g, hands, act);
@@ -74,7 +74,7 @@ impl GateLink {
 
     /// The same for an act that changes the group key: its bytes are worked out anew.
     fn do_regrouping_act<V: Vault>(&mut self, vault: &V, g: u8, act: GateAct) -> Outcome
-        ensures { answered result (held_in self.new) (ring_of self.new) ≡ answer_of (V.Vault.holds vault.now).hash (gate_by_act g act (held_in self.old) (regrouped (V.Vault.holds vault.now) g act (held_in self.old) (ring_of self.old).peers)) }
+        ensures { answered result (held_in self.new) (ring_of self.new) ≡ answer_of (V.holds vault.now).hash (gate_by_act g act (held_in self.old) (regrouped (V.holds vault.now) g act (held_in self.old) (ring_of self.old).peers)) }
     {
         let hands = self.end.many;
         let effect = self.end.do_act(g, hands, act);
@@ -88,7 +88,7 @@ impl GateLink {
     }
 
     fn invite<V: Vault>(&mut self, vault: &V, g: u8, hand: u64) -> Outcome
-        ensures { answered result (held_in self.new) (ring_of self.new) ≡ answer_of (V.Vault.holds vault.now).hash (gate_acts_bytes (V.Vault.holds vault.now) g (GateAct.Invite hand) (held_in self.old) (ring_of self.old)) }
+        ensures { answered result (held_in self.new) (ring_of self.new) ≡ answer_of (V.holds vault.now).hash (gate_acts_bytes (V.holds vault.now) g (GateAct.Invite hand) (held_in self.old) (ring_of self.old)) }
     {
         match self.draw(vault, g) {
             None => Outcome::nothing(),
@@ -101,7 +101,7 @@ impl GateLink {
 
     /// Keys of handhelds are overwritten first.
     fn forget<V: Vault>(&mut self, vault: &V, g: u8) -> Outcome
-        ensures { answered result (held_in self.new) (ring_of self.new) ≡ answer_of (V.Vault.holds vault.now).hash (gate_by_act g GateAct.ForgetGate (held_in self.old) (regrouped (V.Vault.holds vault.now) g GateAct.ForgetGate (held_in self.old) (replicate (length (ring_of self.old).peers) no_hand_keys))) }
+        ensures { answered result (held_in self.new) (ring_of self.new) ≡ answer_of (V.holds vault.now).hash (gate_by_act g GateAct.ForgetGate (held_in self.old) (regrouped (V.holds vault.now) g GateAct.ForgetGate (held_in self.old) (replicate (length (ring_of self.old).peers) no_hand_keys))) }
     {
         self.wipe();
         self.do_regrouping_act(vault, g, GateAct::ForgetGate)
@@ -109,7 +109,7 @@ impl GateLink {
 
     /// What gate `g` does of itself.
     pub fn act<V: Vault>(&mut self, vault: &V, g: u8, act: GateAct) -> Outcome
-        ensures { answered result (held_in self.new) (ring_of self.new) ≡ answer_of (V.Vault.holds vault.now).hash (gate_acts_bytes (V.Vault.holds vault.now) g act (held_in self.old) (ring_of self.old)) }
+        ensures { answered result (held_in self.new) (ring_of self.new) ≡ answer_of (V.holds vault.now).hash (gate_acts_bytes (V.holds vault.now) g act (held_in self.old) (ring_of self.old)) }
     {
         match act {
             GateAct::Invite { hand } => self.invite(vault, g, hand),

@@ -16,7 +16,7 @@ use sealing::{Vault, tag_is_right};
 impl GateLink {
     /// Gate `g` hears a row, as the rules have it, and seals what it says.
     fn hear_row<V: Vault>(&mut self, vault: &V, g: u8, row: &[u64], genuine: bool) -> Outcome
-        ensures { answered result (held_in self.new) (ring_of self.new) ≡ answer_of (V.Vault.holds vault.now).hash (gate_by_row g (record { row = row.entry.now; genuine = genuine }) (held_in self.old) (ring_of self.old)) }
+        ensures { answered result (held_in self.new) (ring_of self.new) ≡ answer_of (V.holds vault.now).hash (gate_by_row g (record { row = row.entry.now; genuine = genuine }) (held_in self.old) (ring_of self.old)) }
     {
         let hands = self.end.many;
         match self.end.hear_row(g, hands, row, genuine) {
@@ -31,7 +31,7 @@ impl GateLink {
 
     /// A message whose tag is right.
     fn hear_message<V: Vault>(&mut self, vault: &V, g: u8, message: Message) -> Outcome
-        ensures { answered result (held_in self.new) (ring_of self.new) ≡ answer_of (V.Vault.holds vault.now).hash (gate_by_row g (record { row = code message; genuine = true }) (held_in self.old) (ring_of self.old)) }
+        ensures { answered result (held_in self.new) (ring_of self.new) ≡ answer_of (V.holds vault.now).hash (gate_by_row g (record { row = code message; genuine = true }) (held_in self.old) (ring_of self.old)) }
     {
         let mut row = [0; ROW];
         let len = message.write(&mut row);
@@ -48,7 +48,7 @@ impl GateLink {
         message: Message,
     ) -> Outcome
         requires { message ≡ message_of (row_of cut.now) }
-        ensures { answered result (held_in self.new) (ring_of self.new) ≡ answer_of (V.Vault.holds vault.now).hash (gate_by_row g (record { row = code (opened_with (V.Vault.holds vault.now).hash key.now cut.now); genuine = true }) (held_in self.old) (gate_keys_after (record { a = cut.now.a; b = cut.now.b; key = key.now }) (message_of (row_of cut.now)) (held_in self.old) (ring_of self.old))) }
+        ensures { answered result (held_in self.new) (ring_of self.new) ≡ answer_of (V.holds vault.now).hash (gate_by_row g (record { row = code (opened_with (V.holds vault.now).hash key.now cut.now); genuine = true }) (held_in self.old) (gate_keys_after (record { a = cut.now.a; b = cut.now.b; key = key.now }) (message_of (row_of cut.now)) (held_in self.old) (ring_of self.old))) }
     {
         let a = cut.a;
         let b = cut.b;
@@ -69,7 +69,7 @@ impl GateLink {
         requires message { message ≡ message_of (row_of cut.now) }
         requires len { cut.now.len ≤ 12 }
         requires tagged { cut.now.tagged ≤ length bytes.now }
-        ensures { answered result (held_in self.new) (ring_of self.new) ≡ answer_of (V.Vault.holds vault.now).hash (gate_tagged (V.Vault.holds vault.now) g bytes.now cut.now key (held_in self.old) (ring_of self.old)) }
+        ensures { answered result (held_in self.new) (ring_of self.new) ≡ answer_of (V.holds vault.now).hash (gate_tagged (V.holds vault.now) g bytes.now cut.now key (held_in self.old) (ring_of self.old)) }
     {
         let row = &cut.row[0..cut.len];
         match key {
@@ -87,7 +87,7 @@ impl GateLink {
 
     /// Gate `g` hears bytes.
     pub fn hear<V: Vault>(&mut self, vault: &V, g: u8, bytes: &[u8]) -> Outcome
-        ensures { answered result (held_in self.new) (ring_of self.new) ≡ answer_of (V.Vault.holds vault.now).hash (gate_hears_bytes (V.Vault.holds vault.now) g bytes.now (held_in self.old) (ring_of self.old)) }
+        ensures { answered result (held_in self.new) (ring_of self.new) ≡ answer_of (V.holds vault.now).hash (gate_hears_bytes (V.holds vault.now) g bytes.now (held_in self.old) (ring_of self.old)) }
     {
         let cut = match Cut::parse(bytes) {
             Err(refusal) => return Outcome::refused(refusal),

@@ -29,7 +29,7 @@ impl GateLink {
 
     /// A reply's: that of a pair offered or in use, or else of one that answers the open handshake.
     fn reply_key<V: Vault>(&self, vault: &V, pair: &Pair, a: &[u8; 32], b: &[u8; 32]) -> TagKey
-        ensures { result ≡ or_reply_key (V.Vault.holds vault.now) pair.now a.now b.now (hand_peer pair.now.hand (held_in self.now)) (hand_keys pair.now.hand (ring_of self.now)) (gate_held_key pair.now a.now b.now (hand_peer pair.now.hand (held_in self.now)) (hand_keys pair.now.hand (ring_of self.now))) }
+        ensures { result ≡ or_reply_key (V.holds vault.now) pair.now a.now b.now (hand_peer pair.now.hand (held_in self.now)) (hand_keys pair.now.hand (ring_of self.now)) (gate_held_key pair.now a.now b.now (hand_peer pair.now.hand (held_in self.now)) (hand_keys pair.now.hand (ring_of self.now))) }
     {
         if pair.hand >= self.end.many as u64 {
             return TagKey::Missing;
@@ -58,7 +58,7 @@ impl GateLink {
         a: &[u8; 32],
         b: &[u8; 32],
     ) -> TagKey
-        ensures { result ≡ gate_tag_key (V.Vault.holds vault.now) (held_in self.now) (ring_of self.now) a.now b.now message.now }
+        ensures { result ≡ gate_tag_key (V.holds vault.now) (held_in self.now) (ring_of self.now) a.now b.now message.now }
     {
         match message {
             Message::Reply { pair } => self.reply_key(vault, pair, a, b),
@@ -83,7 +83,7 @@ fn answer_key<V: Vault>(
     keys: &HandKeys,
 ) -> TagKey
     requires { pair.now.hand < 65536 }
-    ensures { result ≡ reply_key (V.Vault.holds vault.now) pair.now a.now b.now peer.now keys.now }
+    ensures { result ≡ reply_key (V.holds vault.now) pair.now a.now b.now peer.now keys.now }
 {
     if !answers(pair, &peer.handshake) {
         return TagKey::Missing;

@@ -13,7 +13,7 @@ use sealing::Vault;
 impl HandLink {
     /// What a handheld does of itself: it sends a body, or forgets.
     pub fn act<V: Vault>(&mut self, vault: &V, act: HandAct) -> Outcome
-        ensures { answered result (held_in self.new) (ring_of self.new) ≡ answer_of (V.Vault.holds vault.now).hash (hand_acts_bytes act (held_in self.old) (ring_of self.old)) }
+        ensures { answered result (held_in self.new) (ring_of self.new) ≡ answer_of (V.holds vault.now).hash (hand_acts_bytes act (held_in self.old) (ring_of self.old)) }
     {
         match act {
             HandAct::SendUp { .. } => self.do_act(vault, act),
@@ -23,7 +23,7 @@ impl HandLink {
 
     /// What the rules say of an act, sealed with the keys that are held.
     fn do_act<V: Vault>(&mut self, vault: &V, act: HandAct) -> Outcome
-        ensures { answered result (held_in self.new) (ring_of self.new) ≡ answer_of (V.Vault.holds vault.now).hash (hand_by_act act (held_in self.old) (ring_of self.old)) }
+        ensures { answered result (held_in self.new) (ring_of self.new) ≡ answer_of (V.holds vault.now).hash (hand_by_act act (held_in self.old) (ring_of self.old)) }
     {
         let gates = self.end.many;
         let effect = self.end.do_act(gates, act);
@@ -36,7 +36,7 @@ impl HandLink {
 
     /// The keys are overwritten first.
     fn forget<V: Vault>(&mut self, vault: &V) -> Outcome
-        ensures { answered result (held_in self.new) (ring_of self.new) ≡ answer_of (V.Vault.holds vault.now).hash (hand_by_act HandAct.ForgetHand (held_in self.old) (replicate (length (ring_of self.old)) no_gate_keys)) }
+        ensures { answered result (held_in self.new) (ring_of self.new) ≡ answer_of (V.holds vault.now).hash (hand_by_act HandAct.ForgetHand (held_in self.old) (replicate (length (ring_of self.old)) no_gate_keys)) }
     {
         self.wipe();
         self.do_act(vault, HandAct::ForgetHand)

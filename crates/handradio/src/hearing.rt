@@ -20,7 +20,7 @@ const LIMIT: u64 = 1 << 48;
 impl HandLink {
     /// Handheld `s` hears a row, as the rules have it, and seals what it says.
     fn hear_row<V: Vault>(&mut self, vault: &V, s: u16, row: &[u64], genuine: bool) -> Outcome
-        ensures { answered result (held_in self.new) (ring_of self.new) ≡ answer_of (V.Vault.holds vault.now).hash (hand_by_row s (record { row = row.entry.now; genuine = genuine }) (held_in self.old) (ring_of self.old)) }
+        ensures { answered result (held_in self.new) (ring_of self.new) ≡ answer_of (V.holds vault.now).hash (hand_by_row s (record { row = row.entry.now; genuine = genuine }) (held_in self.old) (ring_of self.old)) }
     {
         let gates = self.end.many;
         match self.end.hear_row(gates, s, row, genuine) {
@@ -35,7 +35,7 @@ impl HandLink {
 
     /// A message whose row stands in its places.
     fn hear_message<V: Vault>(&mut self, vault: &V, s: u16, message: Message) -> Outcome
-        ensures { answered result (held_in self.new) (ring_of self.new) ≡ answer_of (V.Vault.holds vault.now).hash (hand_by_row s (record { row = code message; genuine = true }) (held_in self.old) (ring_of self.old)) }
+        ensures { answered result (held_in self.new) (ring_of self.new) ≡ answer_of (V.holds vault.now).hash (hand_by_row s (record { row = code message; genuine = true }) (held_in self.old) (ring_of self.old)) }
     {
         let mut row = [0; ROW];
         let len = message.write(&mut row);
@@ -52,7 +52,7 @@ impl HandLink {
         message: Message,
     ) -> Outcome
         requires { message ≡ message_of (row_of cut.now) }
-        ensures { answered result (held_in self.new) (ring_of self.new) ≡ answer_of (V.Vault.holds vault.now).hash (hand_by_row s (record { row = code (opened_with (V.Vault.holds vault.now).hash key.now cut.now); genuine = true }) (held_in self.old) (hand_keys_after (group_with (V.Vault.holds vault.now).hash key.now cut.now) (message_of (row_of cut.now)) (held_in self.old) (ring_of self.old))) }
+        ensures { answered result (held_in self.new) (ring_of self.new) ≡ answer_of (V.holds vault.now).hash (hand_by_row s (record { row = code (opened_with (V.holds vault.now).hash key.now cut.now); genuine = true }) (held_in self.old) (hand_keys_after (group_with (V.holds vault.now).hash key.now cut.now) (message_of (row_of cut.now)) (held_in self.old) (ring_of self.old))) }
     {
         match message {
             Message::Take { .. } | Message::Renew { .. } => {
@@ -79,7 +79,7 @@ impl HandLink {
         requires message { message ≡ message_of (row_of cut.now) }
         requires len { cut.now.len ≤ 12 }
         requires tagged { cut.now.tagged ≤ length bytes.now }
-        ensures { answered result (held_in self.new) (ring_of self.new) ≡ answer_of (V.Vault.holds vault.now).hash (hand_tagged (V.Vault.holds vault.now) s bytes.now cut.now key (held_in self.old) (ring_of self.old)) }
+        ensures { answered result (held_in self.new) (ring_of self.new) ≡ answer_of (V.holds vault.now).hash (hand_tagged (V.holds vault.now) s bytes.now cut.now key (held_in self.old) (ring_of self.old)) }
     {
         let row = &cut.row[0..cut.len];
         match key {
@@ -97,7 +97,7 @@ impl HandLink {
 
     /// The next nonce in bytes, while there is one, and entropy for it.
     fn draw<V: Vault>(&self, vault: &V, s: u16) -> Option<[u8; 32]>
-        ensures { elim result [ Some b ↦ (can_draw (V.Vault.holds vault.now) self.now.end.draws ≡ true) × (b ≡ hand_nonce (V.Vault.holds vault.now) s (held_in self.now)) | None ↦ can_draw (V.Vault.holds vault.now) self.now.end.draws ≡ false ] }
+        ensures { elim result [ Some b ↦ (can_draw (V.holds vault.now) self.now.end.draws ≡ true) × (b ≡ hand_nonce (V.holds vault.now) s (held_in self.now)) | None ↦ can_draw (V.holds vault.now) self.now.end.draws ≡ false ] }
     {
         if self.end.draws >= LIMIT {
             return None;
@@ -107,7 +107,7 @@ impl HandLink {
 
     /// The keys of a pair that is offered to a gate.
     fn offer<V: Vault>(&mut self, vault: &V, gate: u64, a: &[u8; 32], b: &[u8; 32])
-        ensures keys { ring_of self.new ≡ set (ring_of self.old) gate (with_offered_keys (record { a = a.entry.now; b = b.now; key = pairwise_key (V.Vault.holds vault.now) gate a.entry.now b.now }) (gate_keys gate (ring_of self.old))) }
+        ensures keys { ring_of self.new ≡ set (ring_of self.old) gate (with_offered_keys (record { a = a.entry.now; b = b.now; key = pairwise_key (V.holds vault.now) gate a.entry.now b.now }) (gate_keys gate (ring_of self.old))) }
         ensures same { self.new.end ≡ self.old.end }
     {
         if gate < self.end.many as u64 {
@@ -121,7 +121,7 @@ impl HandLink {
     /// A begin: a nonce is drawn, if there is entropy for it, and the keys of the pair of both are offered.
     fn hear_begin<V: Vault>(&mut self, vault: &V, s: u16, cut: &Cut, gate: u64) -> Outcome
         requires { cut.now.len ≤ 12 }
-        ensures { answered result (held_in self.new) (ring_of self.new) ≡ answer_of (V.Vault.holds vault.now).hash (hand_begun (V.Vault.holds vault.now) s gate cut.now (held_in self.old) (ring_of self.old)) }
+        ensures { answered result (held_in self.new) (ring_of self.new) ≡ answer_of (V.holds vault.now).hash (hand_begun (V.holds vault.now) s gate cut.now (held_in self.old) (ring_of self.old)) }
     {
         match self.draw(vault, s) {
             None => Outcome::nothing(),
@@ -134,7 +134,7 @@ impl HandLink {
 
     /// Handheld `s` hears bytes.
     pub fn hear<V: Vault>(&mut self, vault: &V, s: u16, bytes: &[u8]) -> Outcome
-        ensures { answered result (held_in self.new) (ring_of self.new) ≡ answer_of (V.Vault.holds vault.now).hash (hand_hears_bytes (V.Vault.holds vault.now) s bytes.now (held_in self.old) (ring_of self.old)) }
+        ensures { answered result (held_in self.new) (ring_of self.new) ≡ answer_of (V.holds vault.now).hash (hand_hears_bytes (V.holds vault.now) s bytes.now (held_in self.old) (ring_of self.old)) }
     {
         let cut = match Cut::parse(bytes) {
             Err(refusal) => return Outcome::refused(refusal),

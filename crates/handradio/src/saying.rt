@@ -33,7 +33,7 @@ impl HandLink {
     }
 
     fn say_one<V: Vault>(&self, vault: &V, message: &Message) -> Octets
-        ensures { text result ≡ octets_sealed (V.Vault.holds vault.now).hash (hand_seals (ring_of self.now) message.now) }
+        ensures { text result ≡ octets_sealed (V.holds vault.now).hash (hand_seals (ring_of self.now) message.now) }
     {
         let keys = self.keys_of(message);
         seal(vault, message, &keys.a, &keys.b, &keys.key, &[0; 32])
@@ -41,7 +41,7 @@ impl HandLink {
 
     /// What is said, in bytes.
     pub(crate) fn say<V: Vault>(&self, vault: &V, message: Option<Message>) -> Option<Octets>
-        ensures { texts result ≡ map (octets_sealed (V.Vault.holds vault.now).hash) (map (hand_seals (ring_of self.now)) (listed message)) }
+        ensures { texts result ≡ map (octets_sealed (V.holds vault.now).hash) (map (hand_seals (ring_of self.now)) (listed message)) }
     {
         match message {
             Some(message) => Some(self.say_one(vault, &message)),

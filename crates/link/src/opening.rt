@@ -13,7 +13,7 @@ pub fn open_message<V: Vault>(
     message: Message,
     sealed: &[u8; 8],
 ) -> Message
-    ensures { result ≡ with_body (opened_body (V.Vault.holds vault.now).hash key.now message sealed.now) message }
+    ensures { result ≡ with_body (opened_body (V.holds vault.now).hash key.now message sealed.now) message }
 {
     match message {
         Message::Load {
