@@ -16,7 +16,7 @@ use sealing::{Vault, tag_is_right};
 impl GateLink {
     /// Gate `g` hears a row, as the rules have it, and seals what it says.
     fn hear_row<V: Vault>(&mut self, vault: &V, g: u8, row: &[u64], genuine: bool) -> Outcome
-        ensures { answered result (held_in self.new) (ring_of self.new) ≡ answer_of (V.holds vault.now).hash (gate_by_row g (record { row = row.entry.now; genuine = genuine }) (held_in self.old) (ring_of self.old)) }
+        ensures { answered result (held_in self.new) (ring_of self.new) ≡ answer_of (V.holds vault.now).hash (gate_by_row g (record { row = row.now; genuine = genuine }) (held_in self.old) (ring_of self.old)) }
     {
         let hands = self.end.many;
         match self.end.hear_row(g, hands, row, genuine) {

@@ -1,5 +1,5 @@
 //! A handheld hears bytes: they are cut, their row is judged, their tag is checked, and what they carry is opened.
-ghost use Rattle.std.specs.Prelude.{◌≡◌, ◌≤◌, true, false, length, set, Some, None};
+ghost use Rattle.std.specs.Prelude.{◌≡◌, ◌≤◌, true, false, length, Some, None, slice_set};
 ghost use Rattle.frame.specs.Row.{code, message_of};
 ghost use Rattle.octets.specs.Laws.{row_of};
 ghost use Rattle.sealing.specs.Secrets.{pairwise_key};
@@ -20,7 +20,7 @@ const LIMIT: u64 = 1 << 48;
 impl HandLink {
     /// Handheld `s` hears a row, as the rules have it, and seals what it says.
     fn hear_row<V: Vault>(&mut self, vault: &V, s: u16, row: &[u64], genuine: bool) -> Outcome
-        ensures { answered result (held_in self.new) (ring_of self.new) ≡ answer_of (V.holds vault.now).hash (hand_by_row s (record { row = row.entry.now; genuine = genuine }) (held_in self.old) (ring_of self.old)) }
+        ensures { answered result (held_in self.new) (ring_of self.new) ≡ answer_of (V.holds vault.now).hash (hand_by_row s (record { row = row.now; genuine = genuine }) (held_in self.old) (ring_of self.old)) }
     {
         let gates = self.end.many;
         match self.end.hear_row(gates, s, row, genuine) {
@@ -107,7 +107,7 @@ impl HandLink {
 
     /// The keys of a pair that is offered to a gate.
     fn offer<V: Vault>(&mut self, vault: &V, gate: u64, a: &[u8; 32], b: &[u8; 32])
-        ensures keys { ring_of self.new ≡ set (ring_of self.old) gate (with_offered_keys (record { a = a.entry.now; b = b.now; key = pairwise_key (V.holds vault.now) gate a.entry.now b.now }) (gate_keys gate (ring_of self.old))) }
+        ensures keys { ring_of self.new ≡ slice_set (ring_of self.old) gate (with_offered_keys (record { a = a.now; b = b.now; key = pairwise_key (V.holds vault.now) gate a.now b.now }) (gate_keys gate (ring_of self.old))) }
         ensures same { self.new.end ≡ self.old.end }
     {
         if gate < self.end.many as u64 {

@@ -22,7 +22,7 @@ pub fn seal<V: Vault>(
     key: &[u8; 32],
     group: &[u8; 32],
 ) -> Octets
-    ensures { text result ≡ octets_sealed (V.holds vault.now).hash (record { message = message.entry.now; a = a.now; b = b.now; key = key.now; group = group.now }) }
+    ensures { text result ≡ octets_sealed (V.holds vault.now).hash (record { message = message.now; a = a.now; b = b.now; key = key.now; group = group.now }) }
 {
     let body = seal_body(vault, key, message);
     let carried = seal_key(vault, key, group, message);
