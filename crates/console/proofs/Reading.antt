@@ -1,5 +1,5 @@
 -- What is written reads back, in one way, and what is left out is no row.
-use Rattle.std.proofs.Common.{◌≡◌, ℕ, zero, suc, ◌+◌, ◌*◌, ◌/◌, ◌%◌, ◌^◌, ◌<◌, ◌≤◌, Bool, true, false, cond, not, ◌&&◌, ◌||◌, eqb, ltb, ◌⊎◌, List, [], ◌∷◌, ◌++◌, map, length, get_or, Some, None, Ok, Err, codes, decimal, Option, Result, sym, refl, ap, ◌∙◌, inl, inr, arith, lit≤, rules}
+use Rattle.std.proofs.Common.{◌≡◌, ℕ, zero, suc, ◌+◌, ◌*◌, ◌/◌, ◌%◌, ◌^◌, ◌<◌, ◌≤◌, Bool, true, false, not, ◌&&◌, ◌||◌, eqb, ltb, List, [], ◌∷◌, ◌++◌, length, get_or, Some, None, Ok, Err, codes, decimal, Option, sym, refl, ap, ◌∙◌, arith, lit≤, rules}
 use Rattle.std.specs.Char.{is_ascii_digit, is_ascii_hexdigit, digit_char, digit_value}
 use Rattle.std.specs.Str.Parse.{digits_value}
 use Rattle.std.specs.Str.{all_ascii_digits}
@@ -11,7 +11,6 @@ use Rattle.std.proofs.lemmas.Bool.Decides.{nat_tests}
 use Rattle.frame.specs.declared.message.Refusal.TheVariants.{NoRow}
 use Rattle.octets.specs.Cutting.{cut, cut_kind}
 use Rattle.octets.specs.Layout.{layout, total, widths}
-use Rattle.script.specs.Commands.{quiet}
 use Rattle.script.specs.Line.{Number, number_of, part_by, starts_blank, words, words_after}
 use Rattle.script.proofs.Cuts.{then_some}
 use Rattle.script.proofs.Reading.{numbers_read}
@@ -21,7 +20,7 @@ use Rattle.console.specs.declared.command.Form.{Form}
 use Rattle.console.specs.declared.command.Malformed.{Malformed}
 use Rattle.console.specs.declared.command.Malformed.TheVariants.{NotACommand, Expected}
 use Rattle.console.specs.declared.packet.Packet.{Packet}
-use Rattle.console.specs.Commands.{Follows, Names, Says, form_of, spelling}
+use Rattle.console.specs.Commands.{Names, Says, spelling}
 use Rattle.console.specs.Hex.{byte_of, hex_bytes, hex_text, in_front, message_bytes, nibble_of, of_message}
 use Rattle.console.specs.Packets.{bytes_in}
 use Rattle.console.specs.Laws.{Bytes, CommandsRead, DigitsRead, LongIsNoRow, OneReading, OthersAreNoRow, spaced, told, written}

@@ -1,7 +1,7 @@
 -- The commands of a program, as its lines have them.
 use Rattle.std.specs.Prelude.{◌≡◌, ℕ, ◌≤◌, true, false, List, [], ◌∷◌, map, length, Some, None, Ok, Err, codes, Option, Result}
 use Rattle.script.specs.Commands.{quiet}
-use Rattle.script.specs.Line.{Part, Number, number_of, part_by}
+use Rattle.script.specs.Line.{Number, number_of, part_by}
 use Rattle.console.specs.declared.command.Command.{Command}
 use Rattle.console.specs.declared.command.Command.TheVariants as command
 use Rattle.console.specs.declared.command.Form.{Form}

@@ -1,5 +1,5 @@
 -- A call, put together: what is checked, what comes of the rule, and what is written.
-use Rattle.std.proofs.Common.{◌≡◌, ℕ, List, [], length, replicate, Some, None, Option, sym, refl, ap, ◌∙◌}
+use Rattle.std.proofs.Common.{◌≡◌, ℕ, List, [], length, replicate, Some, None, Option, sym, ap, ◌∙◌}
 use Rattle.frame.specs.declared.message.Message.{Message}
 use Rattle.frame.specs.declared.message.Refusal.{Refusal}
 use Rattle.frame.specs.Row.{padded}
@@ -7,7 +7,6 @@ use Rattle.frame.specs.Refusals.{refusal_number}
 use Rattle.protocol.specs.Rules.{Out, quiet}
 use Rattle.protocol.specs.Calls.{Call, call_of, code_of, row_of}
 use Rattle.endpoint.specs.declared.effect.Effect.{Effect}
-use Rattle.endpoint.specs.declared.call.Heard.{Heard}
 use Rattle.endpoint.specs.Effects.{listed, out_of, hearing_of, acting_of}
 
 module _ {A : Type 0} where

@@ -1,5 +1,5 @@
 -- A session is a plain endpoint whose counters are within their bounds.
-use Rattle.std.specs.Prelude.{ℕ, ◌^◌, Bool, ◌&&◌, Some, None, Option, nat_le}
+use Rattle.std.specs.Prelude.{◌^◌, Bool, ◌&&◌, Some, None, Option, nat_le}
 use Rattle.frame.specs.declared.message.Pair.{Pair}
 use Rattle.protocol.specs.declared.held.Endpoint.{Endpoint}
 use Rattle.protocol.specs.Held.{installed}

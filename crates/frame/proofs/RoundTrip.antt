@@ -3,7 +3,6 @@ use Rattle.std.proofs.Common.{◌≡◌, ℕ, zero, suc, ◌+◌, ◌-◌, ◌<�
 use native.Mathlib.Nat.{sub-zero}
 use Rattle.std.proofs.lemmas.List.{at_drop_all, get_or_past}
 use Rattle.frame.proofs.Small.{and_left, and_right}
-use Rattle.frame.specs.declared.message.Direction.{Direction}
 use Rattle.frame.specs.declared.message.Direction.TheVariants.{Up, Down}
 use Rattle.frame.specs.declared.message.Message.{Message}
 use Rattle.frame.specs.declared.message.Message.TheVariants.{Begin, Reply, Take, Taken, Renew, Load, All}

@@ -1,5 +1,5 @@
 -- Fields joined and cut apart.
-use Rattle.std.proofs.Common.{◌≡◌, ℕ, ◌+◌, ◌-◌, ◌<◌, ◌≤◌, List, [], ◌∷◌, ◌++◌, length, get_or, take, drop, sym, refl, ap, ◌∙◌, append_assoc, append-nil, arith, length-append, length-drop, length-take-le, get_or-drop, take_all, take-add}
+use Rattle.std.proofs.Common.{◌≡◌, ℕ, ◌+◌, ◌<◌, ◌≤◌, List, [], ◌∷◌, ◌++◌, length, get_or, take, drop, sym, refl, ap, ◌∙◌, append_assoc, append-nil, arith, length-append, length-drop, length-take-le, get_or-drop, take_all, take-add}
 use lib.Seq.{take-append_seam, drop-append_seam}
 use Rattle.octets.specs.Low.{low_first, from_low}
 use Rattle.octets.specs.Layout.{Part, Number, Nonce, Body, SealedKey, Tag, widths, total, appended, fields_at}

@@ -1,5 +1,5 @@
 -- How what an end holds moves on: a pair that is spent never comes into use again, and counts only rise.
-use Rattle.std.proofs.Common.{◌≡◌, ℕ, ◌+◌, ◌<◌, ◌≤◌, not, ◌&&◌, T, List, length, set, Some, None, Option, sym, refl, ◌∙◌, subst, arith, leb→le, length-set}
+use Rattle.std.proofs.Common.{◌≡◌, ℕ, ◌+◌, ◌<◌, ◌≤◌, ◌&&◌, T, List, length, set, Some, None, Option, sym, refl, ◌∙◌, subst, arith, leb→le, length-set}
 use Rattle.frame.specs.declared.message.Nonce.{Nonce}
 use Rattle.frame.specs.declared.message.Pair.{Pair}
 use Rattle.frame.specs.declared.message.Direction.{Direction}

@@ -1,5 +1,5 @@
 -- What each rule of a handheld keeps: for one gate, and then for the whole handheld.
-use Rattle.std.proofs.Common.{◌≡◌, ℕ, ◌+◌, ◌<◌, ◌≤◌, Bool, true, false, cond, not, ◌&&◌, ◌||◌, T, eqb, ltb, ◌⊎◌, List, ◌∷◌, length, get_or, replicate, is_some, Some, None, Option, sym, refl, subst, inl, inr, ⊎_elim, arith, eqb→eq, ltb→lt, lt→ltb, leb→le, nltb→le, get_or-set_same}
+use Rattle.std.proofs.Common.{◌≡◌, ℕ, ◌+◌, ◌<◌, ◌≤◌, Bool, true, false, cond, ◌&&◌, ◌||◌, T, eqb, ltb, ◌⊎◌, List, ◌∷◌, length, get_or, replicate, is_some, Some, None, Option, sym, refl, subst, inl, inr, ⊎_elim, arith, eqb→eq, ltb→lt, lt→ltb, leb→le, nltb→le, get_or-set_same}
 use lib.Dec.{not_T}
 use lib.ListN.{length-replicate}
 use Rattle.frame.specs.declared.message.Node.TheVariants.{Hand}

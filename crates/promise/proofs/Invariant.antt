@@ -1,5 +1,5 @@
 -- What holds of every world that can be reached, and how a world moves on.
-use Rattle.std.proofs.Common.{◌≡◌, ℕ, ◌+◌, ◌<◌, ◌≤◌, not, T, List, [], ◌∷◌, ◌++◌, length, is_some, Some, None, Option, sym, ap, ◌∙◌, subst, arith}
+use Rattle.std.proofs.Common.{◌≡◌, ℕ, ◌+◌, ◌<◌, ◌≤◌, T, List, [], ◌∷◌, ◌++◌, length, is_some, Some, None, Option, sym, ap, ◌∙◌, subst, arith}
 use Rattle.frame.specs.declared.message.Node.{Node}
 use Rattle.frame.specs.declared.message.Node.TheVariants.{Gate, Hand}
 use Rattle.frame.specs.declared.message.Nonce.{Nonce}

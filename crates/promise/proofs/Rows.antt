@@ -1,5 +1,5 @@
 -- A row that is a message's: it is refused, and then nothing happens, or it is heard as the message.
-use Rattle.std.proofs.Common.{◌≡◌, ℕ, ◌^◌, ◌<◌, min, Bool, true, false, not, T, ltb, List, [], ◌∷◌, length, Some, None, Option, sym, refl, subst, arith, lt→ltb}
+use Rattle.std.proofs.Common.{◌≡◌, ℕ, ◌^◌, ◌<◌, min, Bool, true, false, T, ltb, List, [], ◌∷◌, length, Some, None, Option, sym, refl, subst, arith, lt→ltb}
 use Rattle.frame.specs.declared.message.Message.{Message}
 use Rattle.frame.specs.declared.message.Refusal.{Refusal}
 use Rattle.frame.specs.Row.{code, is_small, is_message, message_of}

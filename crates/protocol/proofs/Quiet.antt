@@ -1,16 +1,14 @@
 -- What an end does of itself delivers nothing.
-use Rattle.std.proofs.Common.{◌≡◌, ℕ, Bool, true, false, cond, ◌&&◌, ltb, List, [], length, Some, None, Option, refl}
+use Rattle.std.proofs.Common.{◌≡◌, ℕ, Bool, true, false, cond, ltb, [], length, Some, None, Option, refl}
 use Rattle.frame.specs.declared.message.Pair.{Pair}
 use Rattle.frame.specs.declared.message.Direction.{Direction}
 use Rattle.protocol.specs.declared.held.Endpoint.{Endpoint}
-use Rattle.protocol.specs.declared.held.GatePeer.{GatePeer}
-use Rattle.protocol.specs.declared.held.HandPeer.{HandPeer}
 use Rattle.protocol.specs.Held.{HandState, GateState}
 use Rattle.protocol.specs.declared.acts.HandAct.{HandAct}
 use Rattle.protocol.specs.declared.acts.HandAct.TheVariants.{SendUp, ForgetHand}
 use Rattle.protocol.specs.declared.acts.GateAct.{GateAct}
 use Rattle.protocol.specs.declared.acts.GateAct.TheVariants.{Invite, SendDown, Broadcast, Rotate, Rekey, ForgetGate}
-use Rattle.protocol.specs.Rules.{Out, quiet, within, end_sends_by, end_rekeys_by, gate_peer, hand_at, hand_send, hand_acts, hand_peer, gate_at, gate_invite, gate_send, gate_rekey, gate_acts}
+use Rattle.protocol.specs.Rules.{Out, quiet, end_sends_by, end_rekeys_by, gate_peer, hand_acts, hand_peer, gate_acts}
 use Rattle.protocol.specs.Calls.{hand_may, hand_does, gate_may, gate_does}
 
 -- either way

@@ -1,5 +1,5 @@
 -- What an end holds, and how a rule changes one thing of it.
-use Rattle.std.specs.Prelude.{ℕ, Bool, true, false, ◌&&◌, List, replicate, Some, None, Option, ◌==◌}
+use Rattle.std.specs.Prelude.{ℕ, Bool, false, ◌&&◌, List, replicate, Some, None, Option, ◌==◌}
 use Rattle.frame.specs.declared.message.Nonce.{Nonce}
 use Rattle.frame.specs.declared.message.Pair.{Pair}
 use Rattle.protocol.specs.declared.held.Endpoint.{Endpoint}

@@ -1,19 +1,18 @@
 -- A step of the code as an event of the world.
-use Rattle.std.proofs.Common.{◌≡◌, ℕ, zero, suc, ◌-◌, ◌<◌, ◌≤◌, min, Bool, true, false, cond, not, ◌&&◌, ◌||◌, T, eqb, ltb, List, [], ◌∷◌, map, reverse, length, get_or, set, Some, None, Option, sym, refl, ap, ◌∙◌, subst, arith, le-ltb, lt-ltb}
-use Rattle.std.proofs.lemmas.List.{get_or-map, length-map, length-reverse, reverse-reverse, get_or-reverse}
+use Rattle.std.proofs.Common.{◌≡◌, ℕ, zero, suc, ◌-◌, ◌<◌, ◌≤◌, min, Bool, true, false, cond, not, ◌&&◌, T, eqb, ltb, List, [], ◌∷◌, map, reverse, length, get_or, set, sym, refl, ap, ◌∙◌, subst, arith, le-ltb, lt-ltb}
+use Rattle.std.proofs.lemmas.List.{get_or-map, reverse-reverse, get_or-reverse}
 use Rattle.frame.specs.declared.message.Node.{Node}
 use Rattle.frame.specs.declared.message.Node.TheVariants.{Gate, Hand}
 use Rattle.frame.specs.declared.message.Nonce.{Nonce}
 use Rattle.frame.specs.declared.message.Message.{Message}
 use Rattle.frame.specs.declared.message.Message.TheVariants.{Begin, Reply, Take, Taken, Renew, Load, All}
-use Rattle.frame.specs.declared.message.Refusal.TheVariants.{NoMessage, NotForThisEnd}
 use Rattle.frame.specs.Row.{code, is_message, message_of}
 use Rattle.protocol.specs.declared.acts.HandAct.{HandAct}
 use Rattle.protocol.specs.declared.acts.GateAct.{GateAct}
 use Rattle.protocol.specs.Held.{HandState, GateState}
 use Rattle.protocol.specs.Rules.{Out, quiet, hand_hears, hand_acts, gate_acts}
 use Rattle.protocol.specs.Calls.{is_tagged, verdict, unless, hand_may, gate_may, hand_does, gate_does, hand_verdict, hand_hears_row, gate_hears_row}
-use Rattle.protocol.specs.World.{Entry, World, gate, hand, put_gate, put_hand, heard_by, is_sent, may_be_heard, hearer, Event, GateActs, HandActs, Hears, happens}
+use Rattle.protocol.specs.World.{Entry, World, gate, hand, put_gate, put_hand, heard_by, is_sent, may_be_heard, hearer, GateActs, HandActs, Hears, happens}
 use Rattle.promise.proofs.Base.{In, in_here, in_more}
 use Rattle.simulator.specs.declared.row.Line.{Line}
 use Rattle.simulator.specs.Model.{entry_of, message_in}

@@ -1,5 +1,5 @@
 -- What may say nothing adds no message, so that no more are sent than there is place for.
-use Rattle.std.proofs.Common.{◌≡◌, ℕ, ◌+◌, ◌<◌, ◌≤◌, Bool, true, false, cond, ◌&&◌, ltb, leb, List, [], ◌∷◌, ◌++◌, length, Some, None, Ok, Err, Option, Result, sym, refl, ap, ◌∙◌, subst, arith}
+use Rattle.std.proofs.Common.{◌≡◌, ℕ, ◌+◌, ◌<◌, ◌≤◌, Bool, true, false, cond, ◌&&◌, ltb, leb, List, [], ◌++◌, length, Some, None, Ok, Err, Option, Result, sym, refl, ap, ◌∙◌, subst, arith}
 use Rattle.frame.specs.declared.message.Node.{Node}
 use Rattle.frame.specs.declared.message.Node.TheVariants.{Gate, Hand}
 use Rattle.frame.specs.declared.message.Pair.{Pair}
@@ -13,12 +13,10 @@ use Rattle.frame.proofs.RoundTrip.{message_of-code}
 use Rattle.protocol.specs.declared.held.Endpoint.{Endpoint}
 use Rattle.protocol.specs.declared.held.GatePeer.{GatePeer}
 use Rattle.protocol.specs.declared.held.HandPeer.{HandPeer}
-use Rattle.protocol.specs.declared.acts.HandAct.{HandAct}
 use Rattle.protocol.specs.declared.acts.HandAct.TheVariants.{ForgetHand}
-use Rattle.protocol.specs.declared.acts.GateAct.{GateAct}
 use Rattle.protocol.specs.declared.acts.GateAct.TheVariants.{Rotate, ForgetGate}
 use Rattle.protocol.specs.Held.{HandState, GateState}
-use Rattle.protocol.specs.Rules.{Out, quiet, end_hears, gate_peer, hand_at, hand_renew, hand_load, hand_all, hand_hears, hand_peer, gate_at, gate_taken, gate_load, gate_hears, gate_rotates}
+use Rattle.protocol.specs.Rules.{Out, quiet, end_hears, gate_peer, hand_at, hand_renew, hand_load, hand_all, hand_hears, hand_peer, gate_at, gate_taken, gate_load, gate_hears}
 use Rattle.protocol.specs.Calls.{unless, hand_verdict, gate_verdict, hand_hears_row, gate_hears_row, hand_does, gate_does}
 use Rattle.protocol.specs.World.{Entry, World, logged, gate, hand, put_gate, put_hand, heard_by, may_be_heard, hearer, Hears, happens}
 use Rattle.script.specs.declared.command.Command.{Command}

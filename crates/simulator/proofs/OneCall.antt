@@ -1,5 +1,5 @@
 -- One call of one end, as a step of the world.
-use Rattle.std.proofs.Common.{◌≡◌, ℕ, ◌<◌, ◌≤◌, Bool, true, false, cond, eqb, List, [], ◌∷◌, ◌++◌, map, reverse, length, get_or, set, sym, refl, ap, ◌∙◌, subst, arith, ne_eqb}
+use Rattle.std.proofs.Common.{◌≡◌, ℕ, ◌<◌, ◌≤◌, Bool, false, cond, eqb, List, [], ◌∷◌, ◌++◌, map, reverse, length, get_or, set, sym, refl, ap, ◌∙◌, arith}
 use Rattle.std.proofs.lemmas.List.{map-set, get_or-map, map_push, reverse-append, length-map, length-reverse}
 use Rattle.frame.specs.declared.message.Node.{Node}
 use Rattle.frame.specs.declared.message.Node.TheVariants.{Gate, Hand}
@@ -10,7 +10,7 @@ use Rattle.frame.specs.Row.{code, padded, message_of}
 use Rattle.protocol.specs.Held.{HandState, GateState}
 use Rattle.protocol.specs.Rules.{Out}
 use Rattle.protocol.specs.Calls.{Call, call_of, code_of, row_of, gate_act_of, hand_act_of, gate_does, hand_does, gate_verdict, hand_verdict, gate_hears_row, hand_hears_row, gate_hearing, hand_hearing, gate_acting, hand_acting}
-use Rattle.protocol.specs.World.{Entry, World, logged, gate, hand, put_gate, put_hand}
+use Rattle.protocol.specs.World.{Entry, logged, gate, hand, put_gate, put_hand}
 use Rattle.gateway.specs.declared.gateway.Gateway.{Gateway}
 use Rattle.gateway.specs.State.{state_of as gate_state}
 use Rattle.handset.specs.declared.handset.Handset.{Handset}

@@ -1,5 +1,5 @@
 -- A command leads from a world that can be reached to one.
-use Rattle.std.proofs.Common.{◌≡◌, Some, None, Ok, Err, Option, Result, sym, subst}
+use Rattle.std.proofs.Common.{Some, None, Ok, Err, Option, Result, sym, subst}
 use Rattle.protocol.specs.World.{World, Event}
 use Rattle.promise.specs.Reach.{Reached}
 use Rattle.promise.proofs.Reach.{reached_more}

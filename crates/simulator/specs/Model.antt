@@ -2,7 +2,6 @@
 use Rattle.std.specs.Prelude.{◌≡◌, ℕ, List, [], ◌∷◌, ◌++◌, map, reverse, length, Some, None, vec_items, Option, Vec}
 use Rattle.frame.specs.declared.message.Message.{Message}
 use Rattle.frame.specs.Row.{code, padded, message_of}
-use Rattle.protocol.specs.Held.{GateState, HandState}
 use Rattle.protocol.specs.World.{Entry, World}
 use Rattle.gateway.specs.declared.gateway.Gateway.{Gateway}
 use Rattle.gateway.specs.State.{state_of as gate_state}

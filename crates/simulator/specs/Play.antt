@@ -1,5 +1,5 @@
 -- What a command of the script does to the world.
-use Rattle.std.specs.Prelude.{◌≡◌, ℕ, Bool, true, false, cond, not, ◌&&◌, List, reverse, length, Some, None, Ok, Err, Option, Result, nat_le, nat_lt, slice_index_or}
+use Rattle.std.specs.Prelude.{◌≡◌, ℕ, Bool, true, false, cond, not, ◌&&◌, reverse, length, Some, None, Ok, Err, Option, Result, nat_le, nat_lt, slice_index_or}
 use Rattle.frame.specs.declared.message.Node.{Node}
 use Rattle.frame.specs.declared.message.Node.TheVariants.{Gate, Hand}
 use Rattle.frame.specs.declared.message.Message.{Message}

@@ -1,5 +1,5 @@
 -- What is printed of an answer.
-use Rattle.std.specs.Prelude.{ℕ, List, [], ◌++◌, Some, None, codes, decimal, Option}
+use Rattle.std.specs.Prelude.{ℕ, List, ◌++◌, Some, None, codes, decimal, Option}
 use Rattle.frame.specs.Row.{code}
 use Rattle.script.specs.Text.{complaint_text, fault_text, handed_on_text, sent_text}
 use Rattle.simulator.specs.declared.row.Line.{Line}

@@ -1,5 +1,5 @@
 -- What a sponge of SHAKE256 stands for.
-use Rattle.std.specs.Prelude.{◌≡◌, ℕ, List, [], ◌∷◌, ◌++◌, take}
+use Rattle.std.specs.Prelude.{◌≡◌, ℕ, List, ◌++◌, take}
 use Rattle.sponge.specs.Sponge.{delimited, shake_suffix, absorbed, squeezed}
 use Rattle.sponge.specs.declared.streaming.Sponge.{Sponge}
 

@@ -1,4 +1,4 @@
-use Rattle.std.proofs.Common.{◌≡◌, Option, ap}
+use Rattle.std.proofs.Common.{Option, ap}
 use Rattle.frame.specs.Row.{message_of}
 use Rattle.frame.specs.declared.message.Refusal.{Refusal}
 use Rattle.protocol.specs.Rules.{hand_hears, gate_hears}

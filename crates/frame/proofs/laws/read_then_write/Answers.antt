@@ -1,4 +1,4 @@
-use Rattle.std.proofs.Common.{◌≡◌, ℕ, List, length, ap, ◌∙◌}
+use Rattle.std.proofs.Common.{length, ap, ◌∙◌}
 use Rattle.frame.specs.Row.{code, padded}
 use Rattle.frame.proofs.RoundTrip.{code-message_of}
 use Rattle.frame.proofs.laws.read_then_write.Goals as goal

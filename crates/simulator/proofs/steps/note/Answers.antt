@@ -1,4 +1,4 @@
-use Rattle.std.proofs.Common.{◌≡◌, Bool, cond, List, ◌∷◌, map, reverse, vec_items, sym, ap, ◌∙◌, ne_eqb}
+use Rattle.std.proofs.Common.{Bool, cond, List, ◌∷◌, map, reverse, vec_items, sym, ap, ◌∙◌, ne_eqb}
 use Rattle.frame.specs.Row.{message_of}
 use Rattle.simulator.specs.declared.row.Line.{Line}
 use Rattle.simulator.specs.Model.{entries, entry_of}

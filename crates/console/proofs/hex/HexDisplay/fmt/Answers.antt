@@ -1,5 +1,5 @@
 use Rattle.std.proofs.Common.{true, refl, ap, rules}
-use Rattle.std.proofs.Output.{has_written_of_eq, writes_in_calls_nil}
+use Rattle.std.proofs.Output.{has_written_of_eq}
 use Rattle.std.proofs.lemmas.List.{take_all}
 use Rattle.console.specs.Hex.{hex_text}
 use Rattle.console.proofs.Digits.{put_byte}

@@ -1,4 +1,3 @@
-use Rattle.std.proofs.Common.{◌≡◌}
 use Rattle.console.proofs.Digits.{Sofar}
 use Rattle.console.proofs.packet.Packet.from_hex.Given as goal
 

@@ -1,4 +1,4 @@
-use Rattle.std.proofs.Common.{◌≡◌, ap, ◌∙◌}
+use Rattle.std.proofs.Common.{ap, ◌∙◌}
 use Rattle.protocol.specs.declared.acts.GateAct.{GateAct}
 use Rattle.protocol.specs.Calls.{gate_act_of, gate_does, gate_acting}
 use Rattle.protocol.proofs.Quiet.{gate_delivers_nothing}

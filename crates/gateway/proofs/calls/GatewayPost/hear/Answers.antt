@@ -1,4 +1,3 @@
-use Rattle.std.proofs.Common.{◌≡◌, sym, ap, ◌∙◌}
 use Rattle.protocol.specs.Calls.{gate_verdict, gate_hears_row, gate_hearing}
 use Rattle.endpoint.proofs.Calls.{refused, heard}
 use Rattle.gateway.specs.State.{state_of}

@@ -1,4 +1,4 @@
-use Rattle.std.proofs.Common.{◌≡◌, ◌<◌, ◌≤◌, List, length, take, set, sym, refl, ap, ◌∙◌, arith, length-set}
+use Rattle.std.proofs.Common.{List, take, set, ap, ◌∙◌, arith, length-set}
 use lib.Seq.{take-set-lt}
 use Rattle.protocol.specs.declared.held.HandPeer.{HandPeer}
 use Rattle.protocol.specs.Held.{GateState, new_hand_peer}
@@ -12,7 +12,7 @@ pub step-requires : goal.step-requires
 step-requires c = record { bounded = all_at is_bounded_peer c.args.self.now.peers c.args.hand _ c.args.self.now.bounded (omega arith); small = c.requires }
 
 pub invariant_of-self : goal.invariant_of-self
-invariant_of-self c = 
+invariant_of-self c =
     record {
       few = c.args.self.now.few;
       whole = rw length-set c.args.self.now.whole;

@@ -1,4 +1,4 @@
-use Rattle.std.proofs.Common.{◌≡◌, Bool, true, sym, ap, ◌∙◌}
+use Rattle.std.proofs.Common.{◌≡◌, true, sym, ap, ◌∙◌}
 use Rattle.frame.specs.declared.message.Message.{Message}
 use Rattle.frame.specs.Row.{code, is_small}
 use Rattle.frame.proofs.Small.{small_first, small_rest}

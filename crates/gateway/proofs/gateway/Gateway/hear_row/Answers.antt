@@ -1,4 +1,4 @@
-use Rattle.std.proofs.Common.{◌≡◌, Option, sym, ap, ◌∙◌}
+use Rattle.std.proofs.Common.{Option, sym, ap, ◌∙◌}
 use Rattle.frame.specs.declared.message.Refusal.{Refusal}
 use Rattle.frame.specs.declared.message.Message.{Message}
 use Rattle.frame.specs.Row.{message_of}

@@ -1,4 +1,4 @@
-use Rattle.std.proofs.Common.{◌≡◌, ap, ◌∙◌}
+use Rattle.std.proofs.Common.{ap, ◌∙◌}
 use Rattle.protocol.specs.declared.acts.HandAct.{HandAct}
 use Rattle.protocol.specs.Calls.{hand_act_of, hand_does, hand_acting}
 use Rattle.protocol.proofs.Quiet.{hand_delivers_nothing}

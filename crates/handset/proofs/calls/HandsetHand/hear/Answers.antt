@@ -1,4 +1,3 @@
-use Rattle.std.proofs.Common.{◌≡◌, sym, ap, ◌∙◌}
 use Rattle.protocol.specs.Calls.{hand_verdict, hand_hears_row, hand_hearing}
 use Rattle.endpoint.proofs.Calls.{refused, heard}
 use Rattle.handset.specs.State.{state_of}

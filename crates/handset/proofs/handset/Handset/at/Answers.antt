@@ -1,4 +1,4 @@
-use Rattle.std.proofs.Common.{◌≡◌, ◌<◌, ◌≤◌, List, length, take, set, sym, refl, ap, ◌∙◌, arith, length-set}
+use Rattle.std.proofs.Common.{List, take, set, ap, ◌∙◌, arith, length-set}
 use lib.Seq.{take-set-lt}
 use Rattle.protocol.specs.declared.held.GatePeer.{GatePeer}
 use Rattle.protocol.specs.Held.{HandState, new_gate_peer}
@@ -12,7 +12,7 @@ pub step-requires : goal.step-requires
 step-requires c = record { bounded = all_at is_bounded_peer c.args.self.now.peers c.args.gate _ c.args.self.now.bounded (omega arith); small = c.requires }
 
 pub invariant_of-self : goal.invariant_of-self
-invariant_of-self c = 
+invariant_of-self c =
     record { fits = rw length-set c.args.self.now.fits; bounded = all_set is_bounded_peer c.args.self.now.peers c.args.gate c.step.new.peer c.args.self.now.bounded c.step.ensures.bounded }
 
 pub returns : goal.returns

@@ -1,4 +1,4 @@
-use Rattle.std.proofs.Common.{◌≡◌, ◌≤◌, List, refl, ap, arith}
+use Rattle.std.proofs.Common.{◌≤◌, List, refl, ap, arith}
 use lib.ListN.{length-replicate}
 use Rattle.std.proofs.lemmas.List.{take-replicate}
 use Rattle.protocol.specs.declared.held.GatePeer.{GatePeer}

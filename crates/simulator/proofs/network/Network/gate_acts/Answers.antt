@@ -1,8 +1,7 @@
-use Rattle.std.proofs.Common.{◌≡◌, ℕ, ◌<◌, length, replicate, vec_items, vec_len, sym, refl, ap, ◌∙◌, subst, arith}
+use Rattle.std.proofs.Common.{ℕ, ◌<◌, length, replicate, vec_items, vec_len, sym, refl, ap, ◌∙◌, arith}
 use Rattle.gateway.specs.State.{state_of}
 use Rattle.protocol.specs.Held.{GateState}
 use Rattle.protocol.specs.Calls.{gate_act_of, gate_does, gate_acting}
-use Rattle.endpoint.specs.Effects.{acting_of}
 use Rattle.simulator.specs.Model.{entries}
 use Rattle.simulator.proofs.Short.{gate_does_short}
 use Rattle.simulator.proofs.OneCall.{entries_length, gate_acted, gate_step, is_row}

@@ -1,4 +1,4 @@
-use Rattle.std.proofs.Common.{◌≡◌, vec_items, sym, refl, ◌∙◌, arith}
+use Rattle.std.proofs.Common.{vec_items, sym, refl, ◌∙◌, arith}
 use Rattle.std.proofs.lemmas.List.{length-map}
 use Rattle.gateway.specs.State.{state_of as gate_state}
 use Rattle.handset.specs.State.{state_of as hand_state}

@@ -1,8 +1,7 @@
-use Rattle.std.proofs.Common.{◌≡◌, ℕ, ◌<◌, length, replicate, vec_items, vec_len, sym, refl, ap, ◌∙◌, subst, arith}
+use Rattle.std.proofs.Common.{ℕ, ◌<◌, length, replicate, vec_items, vec_len, sym, refl, ap, ◌∙◌, arith}
 use Rattle.handset.specs.State.{state_of}
 use Rattle.protocol.specs.Held.{HandState}
 use Rattle.protocol.specs.Calls.{hand_act_of, hand_does, hand_acting}
-use Rattle.endpoint.specs.Effects.{acting_of}
 use Rattle.simulator.specs.Model.{entries}
 use Rattle.simulator.proofs.Short.{hand_does_short}
 use Rattle.simulator.proofs.OneCall.{entries_length, hand_acted, hand_step, is_row}

@@ -1,4 +1,4 @@
-use Rattle.std.proofs.Common.{◌≡◌, ℕ, ◌<◌, true, length, vec_items, vec_len, sym, refl, ap, ◌∙◌, subst, arith}
+use Rattle.std.proofs.Common.{◌<◌, true, length, vec_items, vec_len, sym, ◌∙◌, arith}
 use Rattle.frame.specs.Row.{code}
 use Rattle.handset.specs.State.{state_of}
 use Rattle.protocol.specs.Held.{HandState}

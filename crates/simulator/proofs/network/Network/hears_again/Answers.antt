@@ -1,4 +1,4 @@
-use Rattle.std.proofs.Common.{◌≡◌, ◌<◌, ◌≤◌, Bool, cond, length, Some, None, vec_items, Option, sym, refl, ap, ◌∙◌, subst, arith, le-ltb, lt-ltb}
+use Rattle.std.proofs.Common.{◌≡◌, ◌<◌, Bool, cond, length, Some, None, vec_items, Option, sym, refl, ap, ◌∙◌, subst, arith, le-ltb, lt-ltb}
 use Rattle.protocol.specs.World.{Entry, Event, Hears}
 use Rattle.simulator.specs.Model.{message_in, world_of}
 use Rattle.simulator.specs.Play.{Goes, absent_in, goes_on, sent_at}

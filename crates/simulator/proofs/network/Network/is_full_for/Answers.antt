@@ -1,4 +1,4 @@
-use Rattle.std.proofs.Common.{◌≡◌, Bool, ◌&&◌, leb, length, vec_items, sym, refl, ap, ◌∙◌, arith, rules}
+use Rattle.std.proofs.Common.{vec_items, rules}
 use Rattle.simulator.proofs.OneCall.{entries_length}
 use Rattle.simulator.proofs.network.Network.is_full_for.Goals as goal
 

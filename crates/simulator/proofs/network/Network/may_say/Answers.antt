@@ -1,4 +1,4 @@
-use Rattle.std.proofs.Common.{◌≡◌, ◌<◌, Bool, ◌&&◌, ltb, length, vec_items, sym, refl, ap, ◌∙◌, arith, le-ltb, lt-ltb}
+use Rattle.std.proofs.Common.{◌<◌, Bool, ◌&&◌, length, vec_items, sym, ap, ◌∙◌, arith, le-ltb, lt-ltb}
 use Rattle.script.specs.declared.command.Command.{Command}
 use Rattle.protocol.specs.World.{Entry}
 use Rattle.simulator.specs.Model.{world_of}

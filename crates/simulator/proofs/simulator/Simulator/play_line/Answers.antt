@@ -1,4 +1,4 @@
-use Rattle.std.proofs.Common.{◌≡◌, None, Ok, Err, Option, refl, subst}
+use Rattle.std.proofs.Common.{None, Ok, Err, Option, refl, subst}
 use Rattle.script.specs.declared.command.Command.{Command}
 use Rattle.script.specs.Commands.{Reads}
 use Rattle.promise.proofs.Reach.{kept}

@@ -1,4 +1,4 @@
-use Rattle.std.proofs.Common.{◌≡◌, Some, Ok, sym, refl, subst}
+use Rattle.std.proofs.Common.{Some, Ok, sym, refl, subst}
 use Rattle.protocol.specs.declared.acts.GateAct.{GateAct}
 use Rattle.link.specs.Keys.{answer_of}
 use Rattle.link.specs.Gates.{gate_acts_bytes}

@@ -1,4 +1,4 @@
-use Rattle.std.proofs.Common.{◌≡◌, Some, Ok, sym, refl, subst}
+use Rattle.std.proofs.Common.{Some, Ok, sym, refl, subst}
 use Rattle.protocol.specs.declared.acts.HandAct.{HandAct}
 use Rattle.link.specs.Keys.{answer_of}
 use Rattle.link.specs.Hands.{hand_acts_bytes}
