@@ -16,7 +16,7 @@ script() {
 
 instructions() {
     script "$1" > "$work/script"
-    valgrind --tool=callgrind --callgrind-out-file=/dev/null "$root/target/bin/deck" 1 1 < "$work/script" 2>&1 >/dev/null |
+    valgrind --tool=callgrind --callgrind-out-file=/dev/null "$root/crates/deck/out/deck" 1 1 < "$work/script" 2>&1 >/dev/null |
         sed -n 's/.*Collected : \([0-9]*\).*/\1/p'
 }
 

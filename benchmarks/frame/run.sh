@@ -24,12 +24,12 @@ printf '#include <openssl/evp.h>\nint main(void) { return EVP_MD_fetch(NULL, "SH
     missing "OpenSSL 3 and its headers (Debian: apt install libssl-dev)"
 
 echo "proving and building libsealing_c.a .." >&2
-(cd "$root" && "$rt" staticlib sealing_c) > "$work/staticlib.log" 2>&1 || {
-    tail -n 20 "$work/staticlib.log" >&2
+(cd "$root/crates/sealing_c" && "$rt" lib) > "$work/lib.log" 2>&1 || {
+    tail -n 20 "$work/lib.log" >&2
     missing "a proof of sealing_c (the end of rt's output is above)"
 }
-kit=$(dirname "$(dirname "$("$rt" doc)")")
-"$cc" -O2 "$here/bench.c" "$root/target/staticlib/libsealing_c.a" "$kit/lib/librattle_c.a" -lcrypto -o "$work/bench"
+kit=$(dirname "$("$rt" doc)")
+"$cc" -O2 "$here/bench.c" "$root/crates/sealing_c/out/libsealing_c.a" "$kit/c/liblibc_c.a" "$kit/c/libos_c.a" -lcrypto -o "$work/bench"
 
 # Instructions of one load: those of 1,000 loads less those of none.
 instructions() {

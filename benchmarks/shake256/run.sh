@@ -26,12 +26,12 @@ printf '#include <openssl/evp.h>\nint main(void) { return EVP_MD_fetch(NULL, "SH
     missing "OpenSSL 3 and its headers (Debian: apt install libssl-dev)"
 
 echo "proving and building libsponge_c.a .." >&2
-(cd "$root" && "$rt" staticlib sponge_c) > "$work/staticlib.log" 2>&1 || {
-    tail -n 20 "$work/staticlib.log" >&2
+(cd "$root/crates/sponge_c" && "$rt" lib) > "$work/lib.log" 2>&1 || {
+    tail -n 20 "$work/lib.log" >&2
     missing "a proof of sponge_c (the end of rt's output is above)"
 }
-kit=$(dirname "$(dirname "$("$rt" doc)")")
-"$cc" -O2 "$here/bench.c" "$root/target/staticlib/libsponge_c.a" "$kit/lib/librattle_c.a" -lcrypto -o "$work/bench"
+kit=$(dirname "$("$rt" doc)")
+"$cc" -O2 "$here/bench.c" "$root/crates/sponge_c/out/libsponge_c.a" "$kit/c/liblibc_c.a" "$kit/c/libos_c.a" -lcrypto -o "$work/bench"
 
 # Instructions of one call: those of 1,000 calls less those of none.
 instructions() {

@@ -9,7 +9,7 @@ use std::fmt;
 pub const VERSION: &str = "0.2.0";
 
 /// The toolchain that it is proved with.
-pub const KIT: &str = "rattle-kit-8b logic 7f726aa041520687";
+pub const KIT: &str = "rattle-kit-13f logic dac8208d650f15bf";
 
 /// What `hand --help` prints.
 pub const HAND_HELP: &str = "\
