@@ -2,8 +2,8 @@
 
 #![tactic(auto)]
 
-ghost use Rattle.std.specs.Prelude.{◌≡◌, ◌<◌, slice_index};
-ghost use Rattle.keccak.specs.Permutation.{constants, keccak_f_lem};
+ghost use Rattle.std.specs.Prelude.{◌≡◌};
+ghost use Rattle.keccak.specs.Permutation.{keccak_f_lem};
 ghost use Rattle.keccak.specs.Tables.{TablesFollow};
 
 mod steps;
@@ -38,22 +38,14 @@ const ROUND_CONSTANTS: [u64; 24] = [
     0x8000000080008008,
 ];
 
-fn round_constant(i: usize) -> u64
-    requires { i < 24 }
-    ensures { result ≡ slice_index constants i }
-{
-    ROUND_CONSTANTS[i]
-}
-
 /// The permutation, in place.
+#[tactic(auto, using(crate::proofs::Rounds::rounds_more, crate::proofs::Rounds::rounds_all), unfolding(crate::specs::Permutation::keccak_f_lem))]
 pub fn keccak_f(state: &mut State)
     ensures { state.new ≡ keccak_f_lem state.old }
 {
     let mut lanes = *state;
-    for i in 0..12 {
-        let first = round_constant(2 * i);
-        let second = round_constant(2 * i + 1);
-        let next = steps::two_rounds(lanes, first, second);
+    for constant in ROUND_CONSTANTS {
+        let next = steps::round(lanes, constant);
         lanes = next;
     }
     *state = lanes;

@@ -5,12 +5,7 @@ ghost use Rattle.keccak.specs.Permutation.{rotl, θ, ρ, π, χ, ι, Rnd};
 
 use crate::State;
 
-fn rotate(lane: u64, n: u32) -> u64
-    ensures { result ≡ rotl lane n }
-{
-    lane.rotate_left(n)
-}
-
+#[tactic(auto, unfolding(crate::specs::Permutation::rotl))]
 fn theta(a: State) -> State
     ensures { result ≡ θ a }
 {
@@ -19,11 +14,11 @@ fn theta(a: State) -> State
     let c2 = a[2] ^ a[7] ^ a[12] ^ a[17] ^ a[22];
     let c3 = a[3] ^ a[8] ^ a[13] ^ a[18] ^ a[23];
     let c4 = a[4] ^ a[9] ^ a[14] ^ a[19] ^ a[24];
-    let d0 = c4 ^ rotate(c1, 1);
-    let d1 = c0 ^ rotate(c2, 1);
-    let d2 = c1 ^ rotate(c3, 1);
-    let d3 = c2 ^ rotate(c4, 1);
-    let d4 = c3 ^ rotate(c0, 1);
+    let d0 = c4 ^ c1.rotate_left(1);
+    let d1 = c0 ^ c2.rotate_left(1);
+    let d2 = c1 ^ c3.rotate_left(1);
+    let d3 = c2 ^ c4.rotate_left(1);
+    let d4 = c3 ^ c0.rotate_left(1);
     [
         a[0] ^ d0,
         a[1] ^ d1,
@@ -53,35 +48,36 @@ fn theta(a: State) -> State
     ]
 }
 
+#[tactic(auto, unfolding(crate::specs::Permutation::rotl))]
 fn rho(a: State) -> State
     ensures { result ≡ ρ a }
 {
     [
-        rotate(a[0], 0),
-        rotate(a[1], 1),
-        rotate(a[2], 62),
-        rotate(a[3], 28),
-        rotate(a[4], 27),
-        rotate(a[5], 36),
-        rotate(a[6], 44),
-        rotate(a[7], 6),
-        rotate(a[8], 55),
-        rotate(a[9], 20),
-        rotate(a[10], 3),
-        rotate(a[11], 10),
-        rotate(a[12], 43),
-        rotate(a[13], 25),
-        rotate(a[14], 39),
-        rotate(a[15], 41),
-        rotate(a[16], 45),
-        rotate(a[17], 15),
-        rotate(a[18], 21),
-        rotate(a[19], 8),
-        rotate(a[20], 18),
-        rotate(a[21], 2),
-        rotate(a[22], 61),
-        rotate(a[23], 56),
-        rotate(a[24], 14),
+        a[0].rotate_left(0),
+        a[1].rotate_left(1),
+        a[2].rotate_left(62),
+        a[3].rotate_left(28),
+        a[4].rotate_left(27),
+        a[5].rotate_left(36),
+        a[6].rotate_left(44),
+        a[7].rotate_left(6),
+        a[8].rotate_left(55),
+        a[9].rotate_left(20),
+        a[10].rotate_left(3),
+        a[11].rotate_left(10),
+        a[12].rotate_left(43),
+        a[13].rotate_left(25),
+        a[14].rotate_left(39),
+        a[15].rotate_left(41),
+        a[16].rotate_left(45),
+        a[17].rotate_left(15),
+        a[18].rotate_left(21),
+        a[19].rotate_left(8),
+        a[20].rotate_left(18),
+        a[21].rotate_left(2),
+        a[22].rotate_left(61),
+        a[23].rotate_left(56),
+        a[24].rotate_left(14),
     ]
 }
 
@@ -126,23 +122,17 @@ fn chi(a: State) -> State
     ]
 }
 
-fn iota(a: State, constant: u64) -> State
+fn iota(mut a: State, constant: u64) -> State
     ensures { result ≡ ι constant a }
 {
-    let mut lanes = a;
-    lanes[0] ^= constant;
-    lanes
+    a[0] ^= constant;
+    a
 }
 
-macro_rules! round {
-    ($a:expr, $constant:expr) => {
-        iota(chi(pi(rho(theta($a)))), $constant)
-    };
-}
-
-/// Two rounds at once, which saves copies of lanes: `round` is a macro, since a function called twice is not inlined.
-pub(crate) fn two_rounds(a: State, first: u64, second: u64) -> State
-    ensures { result ≡ Rnd second (Rnd first a) }
+/// A round. Inlined, so that the five steps run on lanes in registers.
+#[inline(always)]
+pub(crate) fn round(a: State, constant: u64) -> State
+    ensures { result ≡ Rnd constant a }
 {
-    round!(round!(a, first), second)
+    iota(chi(pi(rho(theta(a)))), constant)
 }

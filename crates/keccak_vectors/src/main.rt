@@ -8,7 +8,7 @@ ghost use Rattle.std.specs.Prelude.{◌≡◌, ◌≤◌, length};
 ghost use Rattle.sponge.specs.Sponge.{shake256 as SHAKE256};
 
 use sponge::{Sponge, shake256, shake256_parts3};
-use std::io;
+use std::{array, fmt, io};
 
 const LONGEST: usize = 600;
 
@@ -16,25 +16,14 @@ const LENGTHS_CUT: [usize; 11] = [0, 1, 50, 135, 136, 137, 200, 271, 272, 273, 3
 
 /// 0, 1, .. 250, 0, 1, ..
 fn message() -> [u8; LONGEST] {
-    let mut bytes = [0u8; LONGEST];
-    for i in 0..LONGEST {
-        bytes[i] = (i % 251) as u8;
-    }
-    bytes
+    array::from_fn(|i| (i % 251) as u8)
 }
 
-fn whole(bytes: &[u8]) -> [u8; 32]
-    ensures { result ≡ SHAKE256 bytes.now 32 }
+/// The first `N` bytes of SHAKE256 of `bytes`.
+fn digest<const N: usize>(bytes: &[u8]) -> [u8; N]
+    ensures { result ≡ SHAKE256 bytes.now N }
 {
-    let mut out = [0u8; 32];
-    shake256(bytes, &mut out);
-    out
-}
-
-fn digest(bytes: &[u8]) -> [u8; 16]
-    ensures { result ≡ SHAKE256 bytes.now 16 }
-{
-    let mut out = [0u8; 16];
+    let mut out = [0u8; N];
     shake256(bytes, &mut out);
     out
 }
@@ -62,9 +51,7 @@ fn parts(bytes: &[u8], i: usize) -> [u8; 16]
     for j in i..=bytes.len() {
         answers.absorb(&cut(bytes, i, j));
     }
-    let mut out = [0u8; 16];
-    answers.squeeze_into(&mut out);
-    out
+    squeezed(&answers)
 }
 
 /// In parts of `n` bytes.
@@ -75,35 +62,49 @@ fn chunks(bytes: &[u8], n: usize) -> [u8; 16]
     for part in bytes.chunks(n) {
         sponge.absorb(part);
     }
-    let mut out = [0u8; 16];
+    squeezed(&sponge)
+}
+
+fn squeezed<const N: usize>(sponge: &Sponge) -> [u8; N] {
+    let mut out = [0u8; N];
     sponge.squeeze_into(&mut out);
     out
 }
 
-fn line(rt: &HostRuntime, kind: &str, a: usize, b: usize, bytes: &[u8]) -> io::Result<()> {
-    print!(rt; "{kind} {a} {b} ")?;
-    for byte in bytes {
-        print!(rt; "{byte:02x}")?;
+/// Bytes in hexadecimal.
+#[derive(Drop)]
+struct Hex<'a>(&'a [u8]);
+
+impl fmt::Display for Hex<'_> {
+    fn fmt<W: fmt::Write>(&self, f: &mut fmt::Formatter<W>) -> fmt::Result {
+        for byte in self.0 {
+            write!(f, "{byte:02x}")?;
+        }
+        Ok(())
     }
-    println!(rt; "")
 }
 
-fn print_whole(rt: &HostRuntime, message: &[u8; LONGEST]) -> io::Result<()> {
-    for n in 0..421usize {
-        line(rt, "whole", n, 32, &whole(&message[..n]))?;
+fn line(rt: &impl Print, kind: &str, a: usize, b: usize, bytes: &[u8]) -> io::Result<()> {
+    let bytes = Hex(bytes);
+    println!(rt; "{kind} {a} {b} {bytes}")
+}
+
+fn print_whole(rt: &impl Print, message: &[u8; LONGEST]) -> io::Result<()> {
+    for n in 0..=420usize {
+        line(rt, "whole", n, 32, &digest::<32>(&message[..n]))?;
     }
     Ok(())
 }
 
-fn print_outputs(rt: &HostRuntime, message: &[u8; LONGEST]) -> io::Result<()> {
-    for n in 1..601usize {
+fn print_outputs(rt: &impl Print, message: &[u8; LONGEST]) -> io::Result<()> {
+    for n in 1..=LONGEST {
         let mut out = [0u8; LONGEST];
         line(rt, "output", LONGEST, n, &output(message, &mut out[..n]))?;
     }
     Ok(())
 }
 
-fn print_parts(rt: &HostRuntime, message: &[u8; LONGEST]) -> io::Result<()> {
+fn print_parts(rt: &impl Print, message: &[u8; LONGEST]) -> io::Result<()> {
     for n in LENGTHS_CUT {
         for i in 0..=n {
             line(rt, "parts", n, i, &parts(&message[..n], i))?;
@@ -112,8 +113,8 @@ fn print_parts(rt: &HostRuntime, message: &[u8; LONGEST]) -> io::Result<()> {
     Ok(())
 }
 
-fn print_chunks(rt: &HostRuntime, message: &[u8; LONGEST]) -> io::Result<()> {
-    for n in 1..301usize {
+fn print_chunks(rt: &impl Print, message: &[u8; LONGEST]) -> io::Result<()> {
+    for n in 1..=300usize {
         line(rt, "chunks", LONGEST, n, &chunks(message, n))?;
     }
     Ok(())

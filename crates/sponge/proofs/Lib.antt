@@ -1,3 +1,4 @@
 mod Blocks
 mod Bits
-pub mod Parts
+pub mod Lanes
+mod Waiting

@@ -1,3 +1,4 @@
 pub mod Sponge
 pub mod Padding
+pub mod Absorbing
 pub mod Output

@@ -1,5 +1,5 @@
 use Rattle.std.proofs.Common.{◌≡◌, ◌+◌, ◌*◌, ◌≤◌, ◌++◌, length, get_or, sym, refl, ap, ◌∙◌, add-one, arith, rules}
-use Rattle.std.proofs.lemmas.List.{places, take_all}
+use Rattle.std.proofs.lemmas.List.{places, get_or-take}
 use Rattle.std.proofs.lemmas.Slice.{take-put_mid}
 use Rattle.sponge.specs.Sponge.{trunc, to_bytes}
 use Rattle.sponge.proofs.block.read.Goals as goal
@@ -12,7 +12,7 @@ pub loop-i-preserved : goal.loop-i-preserved
 unfolding trunc
 loop-i-preserved c =
     let a : 8 * c.loop-i.i ≤ length c.loop-i.block = omega (arith, c.loop-i.invariant.0) in
-    let y : c.copy_from_slice.new.self ≡ to_bytes (get_or c.args.lanes.now c.loop-i.i 0) = c.copy_from_slice.ensures.after ∙ c.to_le_bytes-bytes.ensures in
+    let y : c.copy_from_slice.new.self ≡ to_bytes (get_or c.args.lanes.now c.loop-i.i 0) = c.copy_from_slice.ensures.after ∙ c.to_le_bytes.ensures ∙ ap to_bytes (get_or-take 17 c.args.lanes.now c.loop-i.i 0 (omega arith)) in
     let l : 8 * (c.loop-i.i + 1) ≡ 8 * c.loop-i.i + length c.copy_from_slice.new.self = omega (arith, ap length y) in (
       search (rules, places),
       take-put_mid (8 * c.loop-i.i) _ c.loop-i.block c.copy_from_slice.new.self (8 * (c.loop-i.i + 1)) l a
@@ -20,9 +20,3 @@ loop-i-preserved c =
           ∙ ap (λ z. trunc c.loop-i.i c.args.lanes.now ++ z) y
           ∙ ap (λ n. trunc n c.args.lanes.now) (sym (add-one c.loop-i.i)),
     )
-
-pub returns : goal.returns
-returns c =
-    let i : c.loop-i.i ≡ 17 = omega arith in
-    let t : length c.loop-i.block ≤ 8 * c.loop-i.i = omega (arith, c.loop-i.invariant.0) in
-    sym (take_all (8 * c.loop-i.i) c.loop-i.block t) ∙ c.loop-i.invariant.1 ∙ ap (λ n. trunc n c.args.lanes.now) i

@@ -1,9 +1,10 @@
-use Rattle.std.proofs.Common.{◌-◌, ◌≤◌, length, take}
-use Rattle.sponge.specs.Output.{Absorbs}
+use Rattle.std.proofs.Common.{◌≡◌, ℕ, List, ◌++◌, length}
+use Rattle.sponge.specs.Output.{output}
 use Rattle.sponge.proofs.streaming.Sponge.absorb.Given as goal
 
-abbrev pub invariant-loop-self : goal.invariant-loop-self
-invariant-loop-self l = (l.at ≤ length l.part) × Absorbs l.initial.self (take l.at l.part) l.self
+-- absorbing what is left gives what absorbing the whole part would have given
+abbrev pub invariant-loop-head : goal.invariant-loop-head
+invariant-loop-head l = (more : List ℕ) (n : ℕ) → output l.self (l.rest ++ more) n ≡ output l.initial.self (l.part ++ more) n
 
-abbrev pub decreases-loop-self : goal.decreases-loop-self
-decreases-loop-self l = length l.part - l.at
+abbrev pub decreases-loop-head : goal.decreases-loop-head
+decreases-loop-head l = length l.rest
