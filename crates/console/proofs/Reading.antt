@@ -1,29 +1,22 @@
 -- What is written reads back, in one way, and what is left out is no row.
-use Rattle.std.proofs.Common.{◌≡◌, ℕ, zero, suc, ◌+◌, ◌*◌, ◌/◌, ◌%◌, ◌^◌, ◌<◌, ◌≤◌, Bool, true, false, not, ◌&&◌, ◌||◌, eqb, ltb, List, [], ◌∷◌, ◌++◌, length, get_or, Some, None, Ok, Err, codes, decimal, Option, sym, refl, ap, ◌∙◌, arith, lit≤, rules}
-use Rattle.std.specs.Char.{is_ascii_digit, is_ascii_hexdigit, digit_char, digit_value}
-use Rattle.std.specs.Str.Parse.{digits_value}
-use Rattle.std.specs.Str.{all_ascii_digits}
-use Rattle.std.proofs.lemmas.Fmt.{decimal_nonempty, digits_decimal}
-use Rattle.std.proofs.lemmas.List.{append_assoc, append-nil, length-take}
-use Rattle.std.proofs.lemmas.Str.Parse.{IsNumeralModel, numerals_by_value, tells_all_ascii_digits}
-use Rattle.std.proofs.lemmas.Bool.{and_from, and_parts, and_right, both_ways, cond-false, ne_eqb, le-ltb}
+use Rattle.std.proofs.Common.{◌≡◌, ℕ, zero, suc, ◌+◌, ◌*◌, ◌/◌, ◌%◌, ◌^◌, ◌<◌, ◌≤◌, true, false, not, ◌||◌, eqb, ltb, List, [], ◌∷◌, length, get_or, Some, None, Ok, Err, codes, decimal, Option, sym, refl, ap, ◌∙◌, arith, lit≤, rules}
+use Rattle.std.specs.Char.{is_ascii_hexdigit, digit_char, digit_value}
+use Rattle.std.proofs.lemmas.Bool.{and_from, and_right, cond-false, ne_eqb, le-ltb}
 use Rattle.std.proofs.lemmas.Bool.Decides.{nat_tests}
 use Rattle.frame.specs.declared.message.Refusal.TheVariants.{NoRow}
 use Rattle.octets.specs.Cutting.{cut, cut_kind}
 use Rattle.octets.specs.Layout.{layout, total, widths}
-use Rattle.script.specs.Line.{Number, number_of, part_by, starts_blank, words, words_after}
-use Rattle.script.proofs.Cuts.{then_some}
+use Rattle.script.specs.Line.{Number, number_of, part_by}
+use Rattle.script.specs.Commands.{quiet}
 use Rattle.script.proofs.Reading.{numbers_read}
+use Rattle.script.proofs.Readings.{reads_once}
+use Rattle.script.proofs.Spaced.{Whole, solid, whole_number, words_spaced}
 use Rattle.console.specs.declared.command.Command.{Command}
 use Rattle.console.specs.declared.command.Command.TheVariants as command
 use Rattle.console.specs.declared.command.Form.{Form}
-use Rattle.console.specs.declared.command.Malformed.{Malformed}
-use Rattle.console.specs.declared.command.Malformed.TheVariants.{NotACommand, Expected}
-use Rattle.console.specs.declared.packet.Packet.{Packet}
-use Rattle.console.specs.Commands.{Names, Says, spelling}
+use Rattle.console.specs.Commands.{Begins, Says, spelling}
 use Rattle.console.specs.Hex.{byte_of, hex_bytes, hex_text, in_front, message_bytes, nibble_of, of_message}
-use Rattle.console.specs.Packets.{bytes_in}
-use Rattle.console.specs.Laws.{Bytes, CommandsRead, DigitsRead, LongIsNoRow, OneReading, OthersAreNoRow, spaced, told, written}
+use Rattle.console.specs.Laws.{Bytes, CommandsRead, DigitsRead, LongIsNoRow, OneReading, OthersAreNoRow, written}
 
 -- ---- digits
 
@@ -73,44 +66,6 @@ others_are_no_row digits bs is none = long_is_no_row bs (left_out bs (sym (ap of
 
 -- ---- written lines
 
--- no byte is a blank, or may be one
-abbrev solid : List ℕ → Bool
-solid [] = true
-solid (b ∷ bs) = not (eqb b 32 || (eqb b 9 || eqb b 13)) && solid bs
-
-run : (w u rest : List ℕ) → solid u ≡ true → words_after w (u ++ rest) ≡ words_after (w ++ u) rest
-run w [] rest h = ap (λ (l : List ℕ). words_after l rest) (sym (append-nil w))
-run w (b ∷ u) rest h =
-    let dark : starts_blank (b ∷ (u ++ rest)) ≡ false = grind (arith, nat_tests) in
-    rw dark (run (w ++ b ∷ []) u rest (and_parts _ (solid u) h).1 ∙ ap (λ (l : List ℕ). words_after l rest) (append_assoc w (b ∷ []) u))
-
-record Whole (w : List ℕ) : Type 0 where
-  dark : solid w ≡ true
-  some : 0 < length w
-
-abbrev AllWhole : List (List ℕ) → Type 0
-AllWhole [] = Unit {0}
-AllWhole (w ∷ ws) = Whole w × AllWhole ws
-
-words_spaced : (ws : List (List ℕ)) → AllWhole ws → words (spaced ws) ≡ ws
-words_spaced [] h = refl
-words_spaced (w ∷ []) (h, _) = ap words (sym (append-nil w)) ∙ run [] w [] h.dark ∙ then_some w [] h.some
-words_spaced (w ∷ v ∷ ws) (h, hs) =
-    run [] w (codes " " ++ spaced (v ∷ ws)) h.dark ∙ then_some w (words (spaced (v ∷ ws))) h.some
-    ∙ ap (λ (vs : List (List ℕ)). w ∷ vs) (words_spaced (v ∷ ws) hs)
-
--- the text of a number, and digits of bytes
-
-own : IsNumeralModel (λ ds. all_ascii_digits ds ≡ true) (digits_value 10)
-own = numerals_by_value _ tells_all_ascii_digits
-
-dark_number : (w : List ℕ) → all_ascii_digits w ≡ true → solid w ≡ true
-dark_number [] h = refl
-dark_number (b ∷ w) h = and_from _ _ (grind (arith, nat_tests)) (dark_number w (and_parts (is_ascii_digit b) (all_ascii_digits w) h).1)
-
-whole_number : (n : ℕ) → n < 2 ^ 64 → Whole (decimal n)
-whole_number n small = record { dark = dark_number (decimal n) (digits_decimal own n small); some = decimal_nonempty n small }
-
 part_read : (n : ℕ) → n < 2 ^ 64 → part_by (decimal n) (number_of (decimal n)) ≡ Number n
 part_read n small = ap (part_by (decimal n)) (numbers_read n small)
 
@@ -136,52 +91,31 @@ whole_act = record { dark = refl; some = omega arith }
 few : (bs : List ℕ) → length bs ≤ 140 → of_message (Some bs) ≡ Some bs
 few bs h = cond-false _ _ _ (le-ltb 140 (length bs) h)
 
-held : (p : Packet) → length (bytes_in p) ≤ 140
-held p = omega (arith, length-take p.len p.bytes, p.fits)
-
 pub commands_read : CommandsRead
-commands_read (command.Hear p) (some, bytes) =
-    let digits : Whole (hex_text (bytes_in p)) = record { dark = dark_hex (bytes_in p) bytes; some = some_hex (bytes_in p) some } in
-    let apart = words_spaced (written (command.Hear p)) (whole_hear, (digits, tt)) in
-    let back : message_bytes (hex_text (bytes_in p)) ≡ Some (bytes_in p) = ap of_message (digits_read (bytes_in p) bytes) ∙ few (bytes_in p) (held p) in
-    (refl, (hex_text (bytes_in p) ∷ [], apart, (omega arith, back)))
-commands_read command.HearNoRow small = (refl, ([], refl, (omega arith, refl)))
-commands_read (command.Act kind peer body) (a, b, c) =
-    let apart = words_spaced (written (command.Act kind peer body)) (whole_act, (whole_number kind a, (whole_number peer b, (whole_number body c, tt)))) in
-    let ka = part_read kind a in
-    let pb = part_read peer b in
-    let bc = part_read body c in
-    (refl, (decimal kind ∷ decimal peer ∷ decimal body ∷ [], apart, cc))
+commands_read (command.Hear (Some x)) (some, few_bytes, bytes) =
+    let digits : Whole (hex_text x) = record { dark = dark_hex x bytes; some = some_hex x some } in
+    let apart = words_spaced (written (command.Hear (Some x))) (whole_hear, (digits, tt)) in
+    let back : message_bytes (hex_text x) ≡ Some x = ap of_message (digits_read x bytes) ∙ few x few_bytes in
+    (refl, (hex_text x ∷ [], apart, (omega arith, back)))
+commands_read (command.Hear None) small = (refl, ([], refl, (omega arith, refl)))
+commands_read (command.Act act) (a, b, c) =
+    let apart = words_spaced (written (command.Act act)) (whole_act, (whole_number act.kind a, (whole_number act.peer b, (whole_number act.body c, tt)))) in
+    let ka = part_read act.kind a in
+    let pb = part_read act.peer b in
+    let bc = part_read act.body c in
+    (refl, (decimal act.kind ∷ decimal act.peer ∷ decimal act.body ∷ [], apart, cc))
 
 -- ---- one reading
 
-same_told : (ws : List (List ℕ)) (c d : Command) → Says ws c → Says ws d → told c ≡ told d
-same_told ws (command.Hear p) (command.Hear q) (rest, e, (k, f)) (tail, i, (l, g)) = cc
-same_told ws (command.Hear p) command.HearNoRow (rest, e, (k, f)) (tail, i, (l, g)) = cc
-same_told ws (command.Hear p) (command.Act x y z) (rest, e, (k, f)) (tail, i, g) = search rules
-same_told ws command.HearNoRow (command.Hear q) (rest, e, (k, f)) (tail, i, (l, g)) = cc
-same_told ws command.HearNoRow command.HearNoRow x y = refl
-same_told ws command.HearNoRow (command.Act x y z) (rest, e, (k, f)) (tail, i, g) = search rules
-same_told ws (command.Act x y z) (command.Hear q) (rest, e, f) (tail, i, (l, g)) = search rules
-same_told ws (command.Act x y z) command.HearNoRow (rest, e, f) (tail, i, (l, g)) = search rules
-same_told ws (command.Act x y z) (command.Act u v w) (rest, e, f) (tail, i, g) = cc
+same_command : (ws : List (List ℕ)) (c d : Command) → Says ws c → Says ws d → c ≡ d
+same_command ws (command.Hear x) (command.Hear y) (rest, e, (k, f)) (tail, i, (l, g)) = cc
+same_command ws (command.Hear x) (command.Act a) (rest, e, (k, f)) (tail, i, g) = search rules
+same_command ws (command.Act a) (command.Hear y) (rest, e, f) (tail, i, (l, g)) = search rules
+same_command ws (command.Act a) (command.Act b) (rest, e, f) (tail, i, g) =
+    let same : command.Act (record { kind = a.kind; peer = a.peer; body = a.body }) ≡ command.Act (record { kind = b.kind; peer = b.peer; body = b.body }) = cc in same
 
 same_form : (f g : Form) (rest tail : List (List ℕ)) → spelling f ∷ rest ≡ spelling g ∷ tail → f ≡ g
 same_form f g rest tail e = search rules
 
-same_fault : (ws : List (List ℕ)) (d e : Malformed) → Names ws d → Names ws e → d ≡ e
-same_fault ws NotACommand NotACommand x y = refl
-same_fault ws NotACommand (Expected g) x y = absurd (x g y)
-same_fault ws (Expected f) NotACommand x y = absurd (y f x)
-same_fault ws (Expected f) (Expected g) (rest, x) (tail, y) = ap Expected (same_form f g rest tail (sym x ∙ y))
-
 pub one_reading : OneReading
-one_reading ws (Ok None) (Ok None) x y = refl
-one_reading ws (Ok None) (Ok (Some d)) x y = absurd (both_ways _ y.0 x)
-one_reading ws (Ok None) (Err e) x y = absurd (both_ways _ y.0 x)
-one_reading ws (Ok (Some c)) (Ok None) x y = absurd (both_ways _ x.0 y)
-one_reading ws (Ok (Some c)) (Ok (Some d)) x y = ap (λ t. Ok (Some t)) (same_told ws c d x.1 y.1)
-one_reading ws (Ok (Some c)) (Err e) x y = absurd (y.1 c x.1)
-one_reading ws (Err e) (Ok None) x y = absurd (both_ways _ x.0 y)
-one_reading ws (Err e) (Ok (Some d)) x y = absurd (x.1 d y.1)
-one_reading ws (Err d) (Err e) x y = ap Err (same_fault ws d e x.2 y.2)
+one_reading ws = reads_once (Says ws) (Begins ws) (same_command ws) (λ f g (rest, x) (tail, y). same_form f g rest tail (sym x ∙ y)) (quiet ws)

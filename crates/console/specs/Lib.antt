@@ -1,5 +1,4 @@
 pub mod Hex
-pub mod Packets
 pub mod Commands
 pub mod Deliveries
 pub mod Text

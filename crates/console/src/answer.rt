@@ -1,15 +1,9 @@
 //! What a line is answered.
-use crate::command::Malformed;
+use crate::command::Form;
 use crate::delivery::Delivery;
 use frame::Refusal;
 use octets::Octets;
-
-/// What is wrong with a line, by its number.
-#[derive(Clone, Copy)]
-pub struct Complaint {
-    pub line: u64,
-    pub fault: Malformed,
-}
+use script::Complaint;
 
 /// What a line is answered: all but a complaint on standard output.
 #[derive(Clone, Copy)]
@@ -24,5 +18,5 @@ pub enum Answer {
         delivered: Option<Delivery>,
     },
     /// The line is no command, and nothing has moved.
-    Complaint(Complaint),
+    Complaint(Complaint<Form>),
 }

@@ -22,7 +22,11 @@ impl Delivery {
                 body,
             }),
             Message::All { gate, body, .. } => Some(Delivery { peer: gate, body }),
-            _ => None,
+            Message::Begin { .. }
+            | Message::Reply { .. }
+            | Message::Take { .. }
+            | Message::Taken { .. }
+            | Message::Renew { .. } => None,
         }
     }
 
@@ -35,7 +39,12 @@ impl Delivery {
                 peer: pair.hand,
                 body,
             }),
-            _ => None,
+            Message::Begin { .. }
+            | Message::Reply { .. }
+            | Message::Take { .. }
+            | Message::Taken { .. }
+            | Message::Renew { .. }
+            | Message::All { .. } => None,
         }
     }
 }

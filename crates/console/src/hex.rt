@@ -1,8 +1,8 @@
 //! Bytes as hex digits.
-ghost use Rattle.std.specs.Prelude.{◌≡◌, ◌*◌, ◌%◌, ◌<◌, ◌≤◌, ◌⊎◌, IfSome, Some, MatchOption};
-ghost use Rattle.std.specs.Char.{digit_char};
-ghost use Rattle.console.specs.Hex.{byte_of, hex_text, nibble_of};
+ghost use Rattle.std.specs.Prelude.{◌≡◌, ◌<◌, IfSome, Some};
+ghost use Rattle.console.specs.Hex.{byte_of, hex_text, message_bytes, nibble_of};
 
+use octets::Octets;
 use std::fmt;
 
 // The value of a hex digit, in either case.
@@ -19,7 +19,7 @@ fn nibble(digit: u8) -> Option<u8>
 }
 
 // The byte that two hex digits write.
-pub(crate) fn byte(high: u8, low: u8) -> Option<u8>
+fn byte(high: u8, low: u8) -> Option<u8>
     ensures { result ≡ byte_of (nibble_of high) (nibble_of low) }
 {
     let high = nibble(high)?;
@@ -27,26 +27,17 @@ pub(crate) fn byte(high: u8, low: u8) -> Option<u8>
     Some(high * 16 + low)
 }
 
-// How many bytes so many digits write: an odd number writes none, and more than 280 no message.
-pub(crate) fn byte_count(digits: usize) -> Option<usize>
-    ensures { MatchOption result ((digits % 2 ≡ 1) ⊎ (280 < digits)) (λ n. (digits ≡ 2 * n) × (n ≤ 140)) }
+/// The bytes that hex digits write, if these are no more than the longest message has.
+pub fn from_hex(digits: &[u8]) -> Option<Octets>
+    ensures { result ≡ message_bytes digits.now }
 {
-    if digits % 2 == 1 || digits > 280 {
-        return None;
+    let mut octets = Octets::new();
+    let mut rest = digits;
+    while let [high, low, after @ ..] = rest {
+        octets.push(byte(*high, *low)?)?;
+        rest = after;
     }
-    Some(digits / 2)
-}
-
-// The digit that writes four bits, in lower case.
-fn digit(nibble: u8) -> char
-    requires { nibble < 16 }
-    ensures { result ≡ digit_char nibble }
-{
-    if nibble < 10 {
-        (b'0' + nibble) as char
-    } else {
-        (b'a' + nibble - 10) as char
-    }
+    rest.is_empty().then_some(octets)
 }
 
 /// Bytes, to be written as hex digits in lower case.
@@ -57,10 +48,8 @@ impl fmt::Display for Hex<'_> {
     ghost output = { λ hex. Some (hex_text hex.0.now) };
 
     fn fmt<W: fmt::Write>(&self, f: &mut fmt::Formatter<W>) -> fmt::Result {
-        for byte in self.0 {
-            let high = digit(*byte / 16);
-            let low = digit(*byte % 16);
-            write!(f, "{high}{low}")?;
+        for &byte in self.0 {
+            write!(f, "{byte:02x}")?;
         }
         Ok(())
     }

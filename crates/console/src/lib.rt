@@ -7,12 +7,10 @@ mod command;
 mod delivery;
 mod hex;
 mod laws;
-mod packet;
 mod text;
 
-pub use answer::{Answer, Complaint};
-pub use command::{Command, Form, Malformed, parse};
+pub use answer::Answer;
+pub use command::{Command, Form, parse};
 pub use delivery::Delivery;
-pub use hex::Hex;
+pub use hex::{Hex, from_hex};
 pub use laws::laws_stand;
-pub use packet::Packet;

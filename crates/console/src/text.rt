@@ -1,33 +1,23 @@
 //! What a program prints.
 ghost use Rattle.std.specs.Prelude.{Some};
-ghost use Rattle.script.specs.Text.{complaint_text};
-ghost use Rattle.console.specs.Text.{answer_text, delivered_text, fault_text, hand_on_text, said_text};
+ghost use Rattle.console.specs.Text.{answer_text, hand_on_text, line_of, say_text, usage_of};
 
-use crate::answer::{Answer, Complaint};
-use crate::command::{Form, Malformed};
+use crate::answer::Answer;
+use crate::command::Form;
 use crate::delivery::Delivery;
 use crate::hex::Hex;
 use octets::Octets;
+use script::LineForm;
 use std::fmt;
 
-impl fmt::Display for Malformed {
-    ghost output = { λ fault. Some (fault_text fault) };
+impl LineForm for Form {
+    ghost usage_text = { usage_of };
 
-    fn fmt<W: fmt::Write>(&self, f: &mut fmt::Formatter<W>) -> fmt::Result {
+    fn usage(self) -> &'static str {
         match self {
-            Malformed::NotACommand => write!(f, "not a command"),
-            Malformed::Expected(Form::Hear) => write!(f, "expected hear HEX"),
-            Malformed::Expected(Form::Act) => write!(f, "expected act K N BODY"),
+            Form::Hear => "hear HEX",
+            Form::Act => "act K N BODY",
         }
-    }
-}
-
-impl fmt::Display for Complaint {
-    ghost output = { λ complaint. Some (complaint_text complaint.line (fault_text complaint.fault)) };
-
-    fn fmt<W: fmt::Write>(&self, f: &mut fmt::Formatter<W>) -> fmt::Result {
-        let Complaint { line, fault } = *self;
-        write!(f, "line {line}: {fault}")
     }
 }
 
@@ -40,35 +30,30 @@ impl fmt::Display for Delivery {
     }
 }
 
-// The line of what is said, if anything is.
+// What an end says.
 #[derive(Clone, Copy)]
-struct Said(Option<Octets>);
+struct Said(Octets);
 
 impl fmt::Display for Said {
-    ghost output = { λ said. Some (said_text said.0) };
+    ghost output = { λ said. Some (say_text said.0) };
 
     fn fmt<W: fmt::Write>(&self, f: &mut fmt::Formatter<W>) -> fmt::Result {
-        match &self.0 {
-            None => write!(f, ""),
-            Some(octets) => {
-                let hex = Hex(octets.as_slice());
-                write!(f, "say {hex}\n")
-            }
-        }
+        let hex = Hex(self.0.as_slice());
+        write!(f, "say {hex}")
     }
 }
 
-// The line of what is delivered, if anything is.
+// The line of a text, if there is one.
 #[derive(Clone, Copy)]
-struct Delivered(Option<Delivery>);
+struct Line<T>(Option<T>);
 
-impl fmt::Display for Delivered {
-    ghost output = { λ delivered. Some (delivered_text delivered.0) };
+impl<T: fmt::Display> fmt::Display for Line<T> {
+    ghost output = { λ line. line_of T.output line.0 };
 
     fn fmt<W: fmt::Write>(&self, f: &mut fmt::Formatter<W>) -> fmt::Result {
         match &self.0 {
-            None => write!(f, ""),
-            Some(delivery) => write!(f, "{delivery}\n"),
+            None => Ok(()),
+            Some(text) => write!(f, "{text}\n"),
         }
     }
 }
@@ -78,14 +63,14 @@ impl fmt::Display for Answer {
 
     fn fmt<W: fmt::Write>(&self, f: &mut fmt::Formatter<W>) -> fmt::Result {
         match *self {
-            Answer::Nothing => write!(f, ""),
+            Answer::Nothing => Ok(()),
             Answer::Refused(refusal) => {
-                let number = refusal.number();
+                let number = u32::from(refusal);
                 write!(f, "refused {number}\n")
             }
             Answer::Done { said, delivered } => {
-                let said = Said(said);
-                let delivered = Delivered(delivered);
+                let said = Line(said.map(Said));
+                let delivered = Line(delivered);
                 write!(f, "{said}{delivered}")
             }
             Answer::Complaint(complaint) => write!(f, "{complaint}\n"),

@@ -2,53 +2,40 @@
 
 #![tactic(auto)]
 
-use anyhow::anyhow;
+use anyhow::{Context, anyhow};
 use script::line::number;
 use simulator::{Answer, Simulator};
 use std::env;
 use std::io::{BufRead, BufReader};
 use std::process::ExitCode;
-use usage::{DECK_HELP, KIT, VERSION};
+use usage::{DECK_HELP, KIT, VERSION, status};
 
 const USAGE: &str = "usage: deck GATES HANDS < SCRIPT, with numbers of gates and handhelds";
 
 fn main(rt: HostRuntime) -> ExitCode {
-    match run(&rt) {
-        Ok(()) => ExitCode::SUCCESS,
-        Err(e) => {
-            let _ = eprintln!(rt; "deck: {e}");
-            ExitCode::FAILURE
-        }
-    }
+    status(&rt, "deck", run(&rt))
 }
 
 fn run(rt: &HostRuntime) -> anyhow::Result<()> {
-    let mut args = env::args(rt)?;
-    let _program = args.next();
-    let (first, second, third) = (args.next(), args.next(), args.next());
-    match text(&first) {
-        Some("--help") => print!(rt; "{DECK_HELP}")?,
-        Some("--version") => println!(rt; "deck {VERSION}, proved with {KIT}")?,
-        _ => {
-            let (Some(gates), Some(hands), None) = (count(&first), count(&second), third) else {
-                return Err(anyhow!("{USAGE}"));
-            };
+    let words: Vec<String> = env::args(rt)?.skip(1).collect(rt.alloc())?;
+    let words: Vec<&str> = words.iter().map(String::as_str).collect(rt.alloc())?;
+    match words.as_slice() {
+        ["--help", ..] => print!(rt; "{DECK_HELP}")?,
+        ["--version", ..] => println!(rt; "deck {VERSION}, proved with {KIT}")?,
+        words => {
+            let (gates, hands) = counts(words).context(USAGE)?;
             play(rt, gates, hands)?;
         }
     }
     Ok(())
 }
 
-fn text(word: &Option<String>) -> Option<&str> {
-    match word {
-        Some(word) => Some(word.as_str()),
-        None => None,
-    }
-}
-
-/// A number of ends.
-fn count(word: &Option<String>) -> Option<u64> {
-    number(text(word)?.as_bytes())
+/// How many gates and handhelds there are.
+fn counts(words: &[&str]) -> Option<(u64, u64)> {
+    let [gates, hands] = words else {
+        return None;
+    };
+    Some((number(gates.as_bytes())?, number(hands.as_bytes())?))
 }
 
 fn play(rt: &HostRuntime, gates: u64, hands: u64) -> anyhow::Result<()> {
@@ -56,11 +43,10 @@ fn play(rt: &HostRuntime, gates: u64, hands: u64) -> anyhow::Result<()> {
         print!(rt; "{}", Answer::Full)?;
         return Ok(());
     };
-    let mut count = 0u64;
-    for line in BufReader::new(rt.alloc(), rt.stdin())?.split(rt.alloc(), b'\n') {
-        count = count.saturating_add(1);
+    let lines = BufReader::new(rt.alloc(), rt.stdin())?.split(rt.alloc(), b'\n');
+    for (before, line) in lines.enumerate() {
         let line = line?;
-        let answer = simulator.play_line(count, line.as_slice());
+        let answer = simulator.play_line(before as u64 + 1, line.as_slice());
         match answer {
             Answer::Nothing | Answer::Played(_) => print!(rt; "{answer}")?,
             Answer::Complaint(_) | Answer::Absent { .. } => eprint!(rt; "{answer}")?,

@@ -1,10 +1,11 @@
 -- What the code answers of a rule and of a call, as the rules have it.
-use Rattle.std.specs.Prelude.{◌≡◌, ℕ, true, List, [], ◌∷◌, replicate, Some, None, Ok, Err, Option, Result}
+use Rattle.std.specs.Prelude.{◌≡◌, ℕ, true, List, [], ◌∷◌, length, replicate, Some, None, Ok, Err, Option, Result}
 use Rattle.frame.specs.declared.message.Message.{Message}
 use Rattle.frame.specs.declared.message.Refusal.{Refusal}
-use Rattle.frame.specs.Row.{code, is_small, message_of}
+use Rattle.frame.specs.Row.{code, padded, is_small, message_of}
+use Rattle.frame.specs.Refusals.{refusal_number}
 use Rattle.protocol.specs.Rules.{Out, quiet}
-use Rattle.protocol.specs.Calls.{Call}
+use Rattle.protocol.specs.Calls.{Call, row_of}
 use Rattle.endpoint.specs.declared.effect.Effect.{Effect}
 use Rattle.endpoint.specs.declared.call.Heard.{Heard}
 
@@ -22,6 +23,20 @@ hearing_of r y s t = record { held = y; code = r.code; said = r.says; delivered 
 -- the answer to an act, which delivers nothing and is not refused
 abbrev pub acting_of : {A : Type 0} → ℕ → A → (says : List ℕ) → Call A
 acting_of n y s = record { held = y; code = 0; said = n; delivered = 0; says = s; delivers = replicate 12 0 }
+
+-- the code of an answer to a row: 0, or the refusal's number
+abbrev pub code_answered : Result Effect Refusal → ℕ
+code_answered (Ok e) = 0
+code_answered (Err r) = refusal_number r
+
+-- what comes of a row by its answer: of a refused one nothing
+abbrev pub effect_answered : Result Effect Refusal → Effect
+effect_answered (Ok e) = e
+effect_answered (Err r) = record { says = None; delivers = None }
+
+-- the row of what is said or delivered was written, noughts behind it, and this is its length
+abbrev pub Writes : Option Message → (row : List ℕ) → (len : ℕ) → Type 0
+Writes o row n = (row ≡ padded 12 (row_of (listed o))) × (n ≡ length (row_of (listed o)))
 
 -- the message of a row, or the refusal, as the verdict has it
 abbrev pub Judges : Option Refusal → (row : List ℕ) → Result Message Refusal → Type 0

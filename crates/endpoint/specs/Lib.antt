@@ -1,3 +1,4 @@
 pub mod Session
 pub mod Effects
 pub mod Tables
+pub mod Steps

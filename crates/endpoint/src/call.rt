@@ -1,10 +1,11 @@
 //! What a call of an end answers, and how what is said and delivered is written.
-ghost use Rattle.std.specs.Prelude.{◌≡◌, Bool, true, false, not, ◌||◌, length, Some, None, Ok, Err};
+ghost use Rattle.std.specs.Prelude.{◌≡◌, Bool, length};
 ghost use Rattle.frame.specs.declared.message.Message.{Message};
-ghost use Rattle.frame.specs.Row.{code, padded, is_small, message_of};
+ghost use Rattle.frame.specs.Row.{padded};
 ghost use Rattle.protocol.specs.Calls.{is_tagged, row_of, verdict_on};
-ghost use Rattle.endpoint.specs.Effects.{listed};
+ghost use Rattle.endpoint.specs.Effects.{listed, code_answered, effect_answered, Judges, Writes};
 
+use crate::effect::Effect;
 use frame::{Message, ROW, Refusal};
 
 /// A call's answer: 0 or the refusal's number, and the lengths of the rows said and delivered.
@@ -15,13 +16,40 @@ pub struct Heard {
     pub takes: u32,
 }
 
+impl Heard {
+    /// The answer in numbers, as callers in other languages have it: of a refused row noughts are written.
+    pub fn of(
+        answer: Result<Effect, Refusal>,
+        says: &mut [u64; ROW],
+        takes: &mut [u64; ROW],
+    ) -> Heard
+        ensures code { result.code ≡ code_answered answer }
+        ensures said { Writes (effect_answered answer).says says.new result.says }
+        ensures delivered { Writes (effect_answered answer).delivers takes.new result.takes }
+    {
+        let (code, effect) = match answer {
+            Ok(effect) => (0, effect),
+            Err(refusal) => (u32::from(refusal), Effect::nothing()),
+        };
+        Heard {
+            code,
+            says: write(effect.says, says),
+            takes: write(effect.delivers, takes),
+        }
+    }
+}
+
 /// The row of what is said or delivered, noughts behind it, and its length.
 pub fn write(message: Option<Message>, out: &mut [u64; ROW]) -> u32
     ensures row { out.new ≡ padded 12 (row_of (listed message)) }
     ensures len { result ≡ length (row_of (listed message)) }
 {
     match message {
-        Some(message) => message.write(out),
+        Some(message) => {
+            let row = message.row();
+            *out = row.padded();
+            row.len() as u32
+        }
         None => {
             *out = [0; ROW];
             0
@@ -38,32 +66,31 @@ pub trait Addressee {
 }
 
 /// The message of a row, or the first refusal that applies.
+#[tactic(auto, using(crate::proofs::Reading::read_is_small))]
 pub fn check<A: Addressee>(end: &A, row: &[u64], genuine: bool) -> Result<Message, Refusal>
-    ensures { elim result [ Ok m ↦ (verdict_on (A.Addressee.addressed end.now) row.now genuine ≡ None) × (m ≡ message_of row.now) × (is_small (code m) ≡ true) | Err e ↦ verdict_on (A.Addressee.addressed end.now) row.now genuine ≡ Some e ] }
+    ensures { Judges (verdict_on (A.Addressee.addressed end.now) row.now genuine) row.now result }
 {
     let message = Message::read(row)?;
-    ours(end.is_for(&message))?;
-    authentic(&message, genuine)?;
+    if !end.is_for(&message) {
+        return Err(Refusal::NotForThisEnd);
+    }
+    if is_tagged(&message) && !genuine {
+        return Err(Refusal::WrongTag);
+    }
     Ok(message)
 }
 
-fn ours(is_for: bool) -> Result<(), Refusal>
-    ensures { elim result [ Ok _ ↦ is_for ≡ true | Err e ↦ (is_for ≡ false) × (e ≡ Refusal.NotForThisEnd) ] }
-{
-    if is_for {
-        Ok(())
-    } else {
-        Err(Refusal::NotForThisEnd)
-    }
-}
-
 /// All but a begin want a right tag.
-fn authentic(message: &Message, genuine: bool) -> Result<(), Refusal>
-    ensures { elim result [ Ok _ ↦ (genuine || not (is_tagged message.now)) ≡ true | Err e ↦ ((genuine || not (is_tagged message.now)) ≡ false) × (e ≡ Refusal.WrongTag) ] }
+fn is_tagged(message: &Message) -> bool
+    ensures { result ≡ is_tagged message.now }
 {
     match message {
-        Message::Begin { .. } => Ok(()),
-        _ if genuine => Ok(()),
-        _ => Err(Refusal::WrongTag),
+        Message::Begin { .. } => false,
+        Message::Reply { .. }
+        | Message::Take { .. }
+        | Message::Taken { .. }
+        | Message::Renew { .. }
+        | Message::Load { .. }
+        | Message::All { .. } => true,
     }
 }

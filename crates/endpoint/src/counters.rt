@@ -1,12 +1,11 @@
 //! The counters of a session: each is handed out once.
-ghost use Rattle.std.specs.Prelude.{◌≡◌, ◌+◌, ◌^◌, ◌<◌, ◌≤◌, ltb, if◌then◌else◌, Some, None, nat_lt};
+ghost use Rattle.std.specs.Prelude.{◌≡◌, ◌+◌, ◌^◌, ◌<◌, ◌≤◌, if◌then◌else◌, Some, None, nat_lt};
 ghost use Rattle.protocol.specs.Held.{with_send, with_floor, with_round};
 ghost use Rattle.protocol.specs.Rules.{has_next, accepts, past};
 ghost use Rattle.endpoint.specs.Session.{endpoint_of};
 
 use crate::session::Session;
-
-const LIMIT: u64 = 1 << 48;
+use protocol::COUNTER_LIMIT;
 
 impl Session {
     /// The counter of the next frame, while there is one.
@@ -15,7 +14,7 @@ impl Session {
         ensures held { endpoint_of self.new ≡ (if has_next self.old.send then with_send (self.old.send + 1) (endpoint_of self.old) else endpoint_of self.old) }
     {
         let counter = self.send;
-        if counter >= LIMIT {
+        if counter >= COUNTER_LIMIT {
             return None;
         }
         self.send = counter + 1;
@@ -27,7 +26,7 @@ impl Session {
         ensures given { result ≡ (if has_next self.old.round then Some (self.old.round + 1) else None) }
         ensures held { endpoint_of self.new ≡ (if has_next self.old.round then with_round (self.old.round + 1) (endpoint_of self.old) else endpoint_of self.old) }
     {
-        if self.round >= LIMIT {
+        if self.round >= COUNTER_LIMIT {
             return None;
         }
         let round = self.round + 1;
@@ -52,7 +51,7 @@ impl Session {
     pub fn advance(&mut self, round: u64) -> bool
         requires { round < 2 ^ 49 }
         ensures whether { result ≡ nat_lt self.old.round round }
-        ensures held { endpoint_of self.new ≡ (if ltb self.old.round round then with_round round (endpoint_of self.old) else endpoint_of self.old) }
+        ensures held { endpoint_of self.new ≡ (if nat_lt self.old.round round then with_round round (endpoint_of self.old) else endpoint_of self.old) }
     {
         if round <= self.round {
             return false;

@@ -4,7 +4,7 @@ ghost use Rattle.std.specs.Prelude.{◌≡◌, Some, None};
 use frame::Message;
 
 /// What is said and what is delivered.
-#[derive(Clone, Copy)]
+#[derive(Clone, Copy, PartialEq, Eq)]
 pub struct Effect {
     pub says: Option<Message>,
     pub delivers: Option<Message>,

@@ -7,36 +7,27 @@ ghost use Rattle.endpoint.specs.Effects.{out_of};
 
 use crate::effect::Effect;
 use crate::session::Session;
-use frame::{Direction, Message, Nonce, Pair};
+use frame::{Direction, Message, NUMBER_LIMIT, Nonce, Pair};
 use protocol::Endpoint;
-
-/// A bound on bodies.
-const BODY: u64 = 1 << 49;
 
 /// Whether the two name the same key.
 pub fn same_pair(p: &Pair, q: &Pair) -> bool
     ensures { result ≡ same_pair p.now q.now }
 {
-    p.gate == q.gate
-        && p.hand == q.hand
-        && same_nonce(&p.anonce, &q.anonce)
-        && same_nonce(&p.snonce, &q.snonce)
+    p == q
 }
 
 pub fn same_nonce(a: &Nonce, b: &Nonce) -> bool
     ensures { result ≡ same_nonce a.now b.now }
 {
-    a.kind == b.kind && a.node == b.node && a.index == b.index
+    a == b
 }
 
 /// Whether a pair is held, and is this one.
 pub fn is_this(pair: &Pair, held: &Option<Pair>) -> bool
     ensures { result ≡ is_this pair.now held.now }
 {
-    match held {
-        Some(held) => same_pair(pair, held),
-        None => false,
-    }
+    *held == Some(*pair)
 }
 
 /// Hears a load under the key in use: it is delivered once, in the order of counters.
@@ -52,14 +43,9 @@ pub fn hear_load(
     ensures out { out_of result end.new ≡ end_hears direction counter body pair end.old }
     ensures bounded { is_bounded end.new ≡ true }
 {
-    let Some(mut session) = Session::open(end) else {
-        return Effect::nothing();
-    };
-    let accepted = match session.key() {
-        Some(key) if same_pair(&pair, &key) => session.accept(counter),
-        _ => false,
-    };
-    *end = session.close();
+    let accepted = Session::count(end, |session| {
+        session.key() == Some(pair) && session.accept(counter)
+    });
     if accepted {
         Effect::deliver(Message::Load {
             direction,
@@ -81,15 +67,10 @@ pub fn send_load(end: &mut Endpoint, direction: Direction, body: u64) -> Effect
     let Some(pair) = end.key else {
         return Effect::nothing();
     };
-    if body >= BODY {
+    if body >= NUMBER_LIMIT {
         return Effect::nothing();
     }
-    let Some(mut session) = Session::open(end) else {
-        return Effect::nothing();
-    };
-    let next = session.next_send();
-    *end = session.close();
-    match next {
+    match Session::count(end, Session::next_send) {
         Some(counter) => Effect::say(Message::Load {
             direction,
             counter,

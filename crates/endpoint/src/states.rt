@@ -1,16 +1,13 @@
 //! From the plain endpoint of an array to a session and back, and what becomes of its pairs.
 ghost use Rattle.std.specs.Prelude.{◌≡◌, true, false, Some, None};
+ghost use Rattle.std.specs.Fn.{FnOnceReturnsAtMut};
 ghost use Rattle.protocol.specs.Held.{with_offered, installed};
 ghost use Rattle.endpoint.specs.Session.{is_bounded, offered_in, key_in, endpoint_of, installs};
 
 use crate::offer::Offer;
 use crate::session::{Session, State};
-use frame::Pair;
-use protocol::Endpoint;
-
-const LIMIT: u64 = 1 << 48;
-
-const HEARD: u64 = 1 << 49;
+use frame::{NUMBER_LIMIT, Pair};
+use protocol::{COUNTER_LIMIT, Endpoint};
 
 impl State {
     fn of(offered: Option<Pair>, key: Option<Pair>) -> State
@@ -42,12 +39,11 @@ impl State {
         ensures used { key_in result ≡ key_in self }
     {
         match self {
-            State::Nothing => State::Nothing,
+            state @ (State::Nothing | State::InUse(_)) => state,
             State::Offered(offer) => {
                 offer.withdraw();
                 State::Nothing
             }
-            State::InUse(key) => State::InUse(key),
             State::Both(offer, key) => {
                 offer.withdraw();
                 State::InUse(key)
@@ -75,11 +71,38 @@ impl State {
 }
 
 impl Session {
+    /// Changes what an endpoint has of pairs, by way of a session, which is made from it and given back whole.
+    pub fn change<F: FnOnce(Session) -> Session>(end: &mut Endpoint, step: F)
+        requires bounded { is_bounded end.old ≡ true }
+        requires callable { F.IsAlwaysCallable step }
+        ensures changed { (before after : Session) × (endpoint_of before ≡ end.old) × (end.new ≡ endpoint_of after) × F.post step before after }
+        ensures bounded { is_bounded end.new ≡ true }
+    {
+        if let Some(session) = Session::open(end) {
+            *end = step(session).close();
+        }
+    }
+
+    /// The same for its counters, with what the step answers.
+    pub fn count<R: Default, F: FnOnce(&mut Session) -> R>(end: &mut Endpoint, step: F) -> R
+        requires bounded { is_bounded end.old ≡ true }
+        requires callable { F.IsAlwaysCallable step }
+        ensures counted { (before after : Session) × (endpoint_of before ≡ end.old) × (end.new ≡ endpoint_of after) × FnOnceReturnsAtMut F.FnOnce step before result after }
+        ensures bounded { is_bounded end.new ≡ true }
+    {
+        let Some(mut session) = Session::open(end) else {
+            return R::default();
+        };
+        let answer = step(&mut session);
+        *end = session.close();
+        answer
+    }
+
     /// The session of an endpoint whose counters are within their bounds.
     pub fn open(end: &Endpoint) -> Option<Session>
         ensures { elim result [ Some s ↦ endpoint_of s ≡ end.now | None ↦ is_bounded end.now ≡ false ] }
     {
-        if end.send <= LIMIT && end.floor <= HEARD && end.round <= HEARD {
+        if end.send <= COUNTER_LIMIT && end.floor <= NUMBER_LIMIT && end.round <= NUMBER_LIMIT {
             Some(Session {
                 state: State::of(end.offered, end.key),
                 send: end.send,
@@ -116,10 +139,8 @@ impl Session {
         ensures { result ≡ (endpoint_of self.now).offered }
     {
         match &self.state {
-            State::Nothing => None,
-            State::Offered(offer) => Some(offer.pair),
-            State::InUse(_) => None,
-            State::Both(offer, _) => Some(offer.pair),
+            State::Offered(offer) | State::Both(offer, _) => Some(offer.pair),
+            State::Nothing | State::InUse(_) => None,
         }
     }
 
@@ -127,49 +148,25 @@ impl Session {
         ensures { result ≡ (endpoint_of self.now).key }
     {
         match &self.state {
-            State::Nothing => None,
-            State::Offered(_) => None,
-            State::InUse(key) => Some(*key),
-            State::Both(_, key) => Some(*key),
+            State::InUse(key) | State::Both(_, key) => Some(*key),
+            State::Nothing | State::Offered(_) => None,
         }
     }
 
     /// A new offer; what was on offer is no more.
-    pub fn offer(self, offer: Offer) -> Session
+    pub fn offer(mut self, offer: Offer) -> Session
         ensures { endpoint_of result ≡ with_offered (Some offer.pair) (endpoint_of self) }
     {
-        let Session {
-            state,
-            send,
-            floor,
-            round,
-        } = self;
-        let state = state.offer(offer);
-        Session {
-            state,
-            send,
-            floor,
-            round,
-        }
+        self.state = self.state.offer(offer);
+        self
     }
 
     /// Nothing is on offer any more.
-    pub fn withdraw(self) -> Session
+    pub fn withdraw(mut self) -> Session
         ensures { endpoint_of result ≡ with_offered None (endpoint_of self) }
     {
-        let Session {
-            state,
-            send,
-            floor,
-            round,
-        } = self;
-        let state = state.withdraw();
-        Session {
-            state,
-            send,
-            floor,
-            round,
-        }
+        self.state = self.state.withdraw();
+        self
     }
 
     /// Spends the offer: its pair is in use, and every counter begins anew. Without one nothing changes.
@@ -183,16 +180,9 @@ impl Session {
             round,
         } = self;
         match state {
-            State::Offered(offer) => Session::begin(offer.spend()),
-            State::Both(offer, _) => Session::begin(offer.spend()),
-            State::Nothing => Session {
-                state: State::Nothing,
-                send,
-                floor,
-                round,
-            },
-            State::InUse(key) => Session {
-                state: State::InUse(key),
+            State::Offered(offer) | State::Both(offer, _) => Session::begin(offer.spend()),
+            state @ (State::Nothing | State::InUse(_)) => Session {
+                state,
                 send,
                 floor,
                 round,

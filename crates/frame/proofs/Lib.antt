@@ -1,3 +1,3 @@
 pub mod Small
-pub mod Shapes
 pub mod RoundTrip
+pub mod Extended

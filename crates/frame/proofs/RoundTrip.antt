@@ -1,13 +1,11 @@
 -- From a message to its row and back, and from a row to its message and back.
-use Rattle.std.proofs.Common.{◌≡◌, ℕ, zero, suc, ◌+◌, ◌-◌, ◌<◌, Bool, true, false, not, ◌&&◌, ◌||◌, eqb, ltb, List, [], ◌∷◌, length, get_or, take, drop, Ok, Err, Result, sym, refl, ap, ◌∙◌, subst, arith, drop-cons, ltb-true, eqb-true}
-use native.Mathlib.Nat.{sub-zero}
+use Rattle.std.proofs.Common.{◌≡◌, ℕ, zero, suc, ◌+◌, ◌<◌, Bool, true, not, ◌&&◌, ◌||◌, eqb, ltb, List, [], ◌∷◌, length, get_or, drop, sym, refl, ap, ◌∙◌, arith, drop-cons, ltb-true, eqb-true}
 use Rattle.std.proofs.lemmas.List.{at_drop_all, get_or_past}
 use Rattle.frame.proofs.Small.{and_left, and_right}
 use Rattle.frame.specs.declared.message.Direction.TheVariants.{Up, Down}
 use Rattle.frame.specs.declared.message.Message.{Message}
 use Rattle.frame.specs.declared.message.Message.TheVariants.{Begin, Reply, Take, Taken, Renew, Load, All}
-use Rattle.frame.specs.declared.message.Refusal.{Refusal}
-use Rattle.frame.specs.Row.{Reads, code, padded, place, lengths, flag, direction_of, is_small, has_shape, is_message, message_of}
+use Rattle.frame.specs.Row.{code, place, lengths, flag, direction_of, is_small, has_shape, is_message, message_of}
 
 -- ---- a message, written and read
 
@@ -31,32 +29,11 @@ code-has_shape (Load Up c b p) = refl
 code-has_shape (Load Down c b p) = refl
 code-has_shape (All g n c b) = refl
 
--- the row in its twelve places, without the noughts
-pub unpadded : (m : Message) → take (length (code m)) (padded 12 (code m)) ≡ code m
-unpadded (Begin g h a) = refl
-unpadded (Reply p) = refl
-unpadded (Take n c p) = refl
-unpadded (Taken p) = refl
-unpadded (Renew r n c p) = refl
-unpadded (Load d c b p) = refl
-unpadded (All g n c b) = refl
-
 and_both : (a b : Bool) → a ≡ true → b ≡ true → (a && b) ≡ true
 and_both a b p q = ap (λ (x : Bool). x && b) p ∙ q
 
 pub code-is_message : (m : Message) → is_small (code m) ≡ true → is_message (code m) ≡ true
 code-is_message m small = and_both (is_small (code m)) (has_shape (code m)) small (code-has_shape m)
-
-pub reads_back : (m : Message) (row : List ℕ) (n : ℕ) (r : Result Message Refusal) →
-    row ≡ padded 12 (code m) → n ≡ length (code m) → Reads (is_message (take (n - 0) row)) (take (n - 0) row) r → is_small (code m) ≡ true → r ≡ Ok m
-reads_back m row n r written long answered small = by_answer r (subst (λ (l : List ℕ). Reads (is_message l) l r) cut answered)
-  where
-    cut : take (n - 0) row ≡ code m
-    cut = ap (λ (k : ℕ). take k row) (sub-zero n ∙ long) ∙ ap (take (length (code m))) written ∙ unpadded m
-
-    by_answer : (r : Result Message Refusal) → Reads (is_message (code m)) (code m) r → r ≡ Ok m
-    by_answer (Ok x) h = ap Ok (h.1 ∙ message_of-code m)
-    by_answer (Err e) h = let none : true ≡ false = sym (code-is_message m small) ∙ h.0 in grind arith
 
 -- ---- a row, read and written
 
@@ -106,7 +83,10 @@ module _ (row : List ℕ) (good : is_message row ≡ true) where
   pub code-message_of : code (message_of row) ≡ row
   code-message_of = by_kind (place row 0) refl ∙ whole (get_or lengths (place row 0) 0) row long
 
--- the numbers of a message that was read are small
+-- the row of a message that was read
+pub row_again : (row : List ℕ) (m : Message) → is_message row ≡ true → m ≡ message_of row → code m ≡ row
+row_again row m good e = ap code e ∙ code-message_of row good
+
+-- its numbers are small
 pub code-is_small : (row : List ℕ) (m : Message) → is_message row ≡ true → m ≡ message_of row → is_small (code m) ≡ true
-code-is_small row m good e =
-    ap (λ (x : Message). is_small (code x)) e ∙ ap is_small (code-message_of row good) ∙ and_left (is_small row) (has_shape row) good
+code-is_small row m good e = ap is_small (row_again row m good e) ∙ and_left (is_small row) (has_shape row) good

@@ -1,5 +1,6 @@
 -- A row whose numbers are below 2^49, number by number.
-use Rattle.std.proofs.Common.{◌≡◌, ℕ, ◌^◌, Bool, true, false, ◌&&◌, ltb, List, ◌∷◌, refl, arith}
+use Rattle.std.proofs.Common.{◌≡◌, ℕ, ◌^◌, Bool, true, false, ◌&&◌, ltb, List, [], ◌∷◌, refl, ap, arith}
+use Rattle.std.specs.List.{list_all}
 use Rattle.frame.specs.Row.{is_small}
 
 pub and_left : (a b : Bool) → (a && b) ≡ true → a ≡ true
@@ -9,6 +10,12 @@ and_left false b e = e
 pub and_right : (a b : Bool) → (a && b) ≡ true → b ≡ true
 and_right true b e = e
 and_right false b e = grind arith
+
+-- as std's test of all elements has it
+pub all_small : (row : List ℕ) → list_all (λ x. ltb x (2 ^ 49)) row ≡ is_small row
+unfolding is_small
+all_small [] = refl
+all_small (x ∷ row) = ap (λ (b : Bool). ltb x (2 ^ 49) && b) (all_small row)
 
 pub small_first : (x : ℕ) (xs : List ℕ) → is_small (x ∷ xs) ≡ true → ltb x (2 ^ 49) ≡ true
 unfolding is_small

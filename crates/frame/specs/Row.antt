@@ -1,5 +1,5 @@
 -- Messages as rows of numbers.
-use Rattle.std.specs.Prelude.{◌≡◌, ℕ, zero, suc, ◌+◌, ◌^◌, Bool, true, false, cond, not, ◌&&◌, ◌||◌, List, [], ◌∷◌, length, Ok, Err, Result, ◌==◌, nat_lt, slice_index}
+use Rattle.std.specs.Prelude.{◌≡◌, ℕ, zero, suc, ◌+◌, ◌^◌, ◌<◌, ◌≤◌, Bool, true, false, cond, not, ◌&&◌, ◌||◌, List, [], ◌∷◌, length, Ok, Err, Result, ◌==◌, nat_lt, slice_index}
 use Rattle.frame.specs.declared.message.Nonce.{Nonce}
 use Rattle.frame.specs.declared.message.Pair.{Pair}
 use Rattle.frame.specs.declared.message.Direction.{Direction}
@@ -78,6 +78,11 @@ message_of row =
     (cond (place row 0 == 4) (Renew (place row 1) (place row 2) (place row 3) (pair_at row 4))
     (cond (place row 0 == 5) (Load (direction_of (place row 1)) (place row 2) (place row 3) (pair_at row 4))
     (All (place row 1) (place row 2) (place row 3) (place row 4)))))))
+
+-- the answer to a flag: 0 and 1 are directions, and nothing else is
+abbrev pub ReadsFlag : ℕ → Result Direction Refusal → Type 0
+ReadsFlag n (Ok d) = (n < 2) × (d ≡ direction_of n)
+ReadsFlag n (Err e) = (2 ≤ n) × (e ≡ NoMessage)
 
 -- the answer to a row, which is good or not: its message exactly where it is, and else that it is none
 abbrev pub Reads : Bool → List ℕ → Result Message Refusal → Type 0

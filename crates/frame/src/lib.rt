@@ -2,10 +2,13 @@
 
 #![tactic(auto)]
 
+mod convert;
 mod laws;
 mod message;
+mod read;
 mod row;
+mod write;
 
 pub use laws::{read_then_write, write_then_read};
 pub use message::{Direction, Message, Node, Nonce, Pair, Refusal};
-pub use row::ROW;
+pub use row::{NUMBER_LIMIT, ROW, Row};

@@ -3,79 +3,42 @@
 #![tactic(auto)]
 
 use anyhow::anyhow;
-use console::Answer;
-use sealing::FileVault;
+use sealing::{FileTooShort, FileVault};
 use std::io::{BufRead, BufReader};
 use std::process::ExitCode;
 use std::{env, fs};
-use terminal::GateTerminal;
-use usage::{Arguments, GATE_HELP, KIT, Program, Request, VERSION};
+use terminal::{GateTerminal, serve};
+use usage::{Arguments, GATE_HELP, KIT, Program, Request, VERSION, status};
 
 fn main(rt: HostRuntime) -> ExitCode {
-    match run(&rt) {
-        Ok(()) => ExitCode::SUCCESS,
-        Err(e) => {
-            let _ = eprintln!(rt; "gate: {e}");
-            ExitCode::FAILURE
-        }
-    }
+    status(&rt, "gate", run(&rt))
 }
 
 fn run(rt: &HostRuntime) -> anyhow::Result<()> {
-    let mut args = env::args(rt)?;
-    let _program = args.next();
-    let (first, second, third, fourth) = (args.next(), args.next(), args.next(), args.next());
-    match Program::Gate.request(text(&first), text(&second), text(&third), text(&fourth)) {
-        Ok(Request::Help) => print!(rt; "{GATE_HELP}")?,
-        Ok(Request::Version) => println!(rt; "gate {VERSION}, proved with {KIT}")?,
-        Ok(Request::Run(arguments)) => serve(rt, arguments)?,
-        Err(misuse) => return Err(anyhow!(format!(in rt.alloc(); "{misuse}")?)),
-    }
-    Ok(())
-}
-
-fn text(word: &Option<String>) -> Option<&str> {
-    match word {
-        Some(word) => Some(word.as_str()),
-        None => None,
-    }
-}
-
-fn serve(rt: &HostRuntime, arguments: Arguments<'_>) -> anyhow::Result<()> {
-    let mut terminal = open(rt, arguments)?;
-    let mut count = 0u64;
-    for line in BufReader::new(rt.alloc(), rt.stdin())?.split(rt.alloc(), b'\n') {
-        count = count.saturating_add(1);
-        let line = line?;
-        let answer = terminal.play_line(count, line.as_slice());
-        match answer {
-            Answer::Complaint(_) => eprint!(rt; "{answer}")?,
-            _ => print!(rt; "{answer}")?,
+    let words: Vec<String> = env::args(rt)?.skip(1).collect(rt.alloc())?;
+    let words: Vec<&str> = words.iter().map(String::as_str).collect(rt.alloc())?;
+    match Program::Gate.request(words.as_slice())? {
+        Request::Help => print!(rt; "{GATE_HELP}")?,
+        Request::Version => println!(rt; "gate {VERSION}, proved with {KIT}")?,
+        Request::Run(arguments) => {
+            let mut terminal = open(rt, arguments)?;
+            let lines = BufReader::new(rt.alloc(), rt.stdin())?.split(rt.alloc(), b'\n');
+            serve(rt, &mut terminal, lines)?;
         }
     }
     Ok(())
 }
 
 fn open(rt: &HostRuntime, arguments: Arguments<'_>) -> anyhow::Result<GateTerminal<FileVault>> {
+    let usage = Program::Gate.usage();
     let Arguments { index, peers, path } = arguments;
     let index = u8::try_from(index)?;
     let hands = u16::try_from(peers)?;
-    let file = match fs::read(rt, path) {
-        Ok(file) => file,
-        Err(e) => {
-            return Err(anyhow!(format!(in rt.alloc(); "FILE: {e}; usage: gate N S FILE")?));
-        }
-    };
-    match FileVault::for_gate(file, hands) {
-        Ok(vault) => match GateTerminal::new(vault, index, hands) {
-            Some(terminal) => Ok(terminal),
-            None => Err(anyhow!("S is more than 512; usage: gate N S FILE")),
-        },
-        Err(short) => {
-            let (found, needed) = (short.found, short.needed);
-            Err(anyhow!(format!(in rt.alloc();
-                "FILE has {found} bytes, its secrets take {needed}; usage: gate N S FILE"
-            )?))
-        }
-    }
+    let file = fs::read(rt, path).map_err(|e| anyhow!("FILE: {e}; usage: {usage}"))?;
+    let vault = FileVault::for_gate(file, hands).map_err(|FileTooShort { found, needed }| {
+        anyhow!("FILE has {found} bytes, its secrets take {needed}; usage: {usage}")
+    })?;
+    GateTerminal::new(vault, index, hands).ok_or_else(|| anyhow!(
+        "S is more than 512; usage: {usage}"
+    ))
 }

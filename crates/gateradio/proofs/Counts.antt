@@ -1,17 +1,13 @@
--- A gate holds keys for as many handhelds as the rules hold something for.
+-- For how many handhelds a gate holds something.
 use Rattle.std.proofs.Common.{◌≡◌, ℕ, ◌≤◌, List, length, take, sym, ◌∙◌, arith}
 use Rattle.endpoint.proofs.Tables.{counted}
 use Rattle.gateway.specs.declared.gateway.Gateway.{Gateway}
 use Rattle.gateway.specs.State.{state_of}
 use Rattle.link.specs.declared.keys.HandKeys.{HandKeys}
 use Rattle.link.specs.Gates.{GateRing}
-use Rattle.gateradio.specs.declared.held.GateLink.{GateLink}
 
 pub peers_fit : (e : Gateway) → e.many ≤ length e.peers
 peers_fit e = omega (arith, e.few, e.whole)
-
-pub keys_fit : (l : GateLink) → l.end.many ≤ length l.keys
-keys_fit l = omega (arith, l.end.few, l.whole)
 
 pub many_of : (e : Gateway) → length (state_of e).peers ≡ e.many
 many_of e = counted e.many e.peers (peers_fit e)

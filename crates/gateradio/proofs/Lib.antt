@@ -1,3 +1,3 @@
 mod Counts
-mod Deeds
+mod Sealed
 mod Ways

@@ -8,34 +8,38 @@ ghost use Rattle.link.specs.Answers.{answered};
 ghost use Rattle.gateradio.specs.State.{held_in, ring_of};
 
 use crate::held::GateLink;
-use frame::{Message, ROW};
-use link::{Outcome, PairKeys, TagKey, open_message};
+use frame::{Message, Refusal};
+use gateway::Post;
+use link::{PairKeys, SealedEffect, TagKey, open_message};
 use octets::Cut;
 use sealing::{Vault, tag_is_right};
 
 impl GateLink {
     /// Gate `g` hears a row, as the rules have it, and seals what it says.
-    fn hear_row<V: Vault>(&mut self, vault: &V, g: u8, row: &[u64], genuine: bool) -> Outcome
+    fn hear_row<V: Vault>(
+        &mut self,
+        vault: &V,
+        g: u8,
+        row: &[u64],
+        genuine: bool,
+    ) -> Result<SealedEffect, Refusal>
         ensures { answered result (held_in self.new) (ring_of self.new) ≡ answer_of (V.holds vault.now).hash (gate_by_row g (record { row = row.now; genuine = genuine }) (held_in self.old) (ring_of self.old)) }
     {
         let hands = self.end.many;
-        match self.end.hear_row(g, hands, row, genuine) {
-            Err(refusal) => Outcome::refused(refusal),
-            Ok(effect) => Outcome {
-                refusal: None,
-                says: self.say(vault, effect.says),
-                delivers: effect.delivers,
-            },
-        }
+        let effect = self.end.hear_row(g, hands, row, genuine)?;
+        Ok(self.sealed(vault, effect))
     }
 
     /// A message whose tag is right.
-    fn hear_message<V: Vault>(&mut self, vault: &V, g: u8, message: Message) -> Outcome
+    fn hear_message<V: Vault>(
+        &mut self,
+        vault: &V,
+        g: u8,
+        message: Message,
+    ) -> Result<SealedEffect, Refusal>
         ensures { answered result (held_in self.new) (ring_of self.new) ≡ answer_of (V.holds vault.now).hash (gate_by_row g (record { row = code message; genuine = true }) (held_in self.old) (ring_of self.old)) }
     {
-        let mut row = [0; ROW];
-        let len = message.write(&mut row);
-        self.hear_row(vault, g, &row[..len as usize], true)
+        self.hear_row(vault, g, message.row().as_slice(), true)
     }
 
     /// A message behind a right tag: its keys are kept, its body is opened, and then it is heard.
@@ -46,13 +50,15 @@ impl GateLink {
         key: &[u8; 32],
         cut: &Cut,
         message: Message,
-    ) -> Outcome
+    ) -> Result<SealedEffect, Refusal>
         requires { message ≡ message_of (row_of cut.now) }
-        ensures { answered result (held_in self.new) (ring_of self.new) ≡ answer_of (V.holds vault.now).hash (gate_by_row g (record { row = code (opened_with (V.holds vault.now).hash key.now cut.now); genuine = true }) (held_in self.old) (gate_keys_after (record { a = cut.now.a; b = cut.now.b; key = key.now }) (message_of (row_of cut.now)) (held_in self.old) (ring_of self.old))) }
+        ensures { answered result (held_in self.new) (ring_of self.new) ≡ answer_of (V.holds vault.now).hash (gate_by_row g (record { row = code (opened_with (V.holds vault.now).hash key.now cut.now); genuine = true }) (held_in self.old) (gate_keys_after (record { nonces = cut.now.nonces; key = key.now }) (message_of (row_of cut.now)) (held_in self.old) (ring_of self.old))) }
     {
-        let a = cut.a;
-        let b = cut.b;
-        self.keep(&message, PairKeys { a, b, key: *key });
+        let pair_keys = PairKeys {
+            nonces: cut.nonces,
+            key: *key,
+        };
+        self.keep(&message, pair_keys);
         self.hear_message(vault, g, open_message(vault, key, message, &cut.body))
     }
 
@@ -65,18 +71,17 @@ impl GateLink {
         cut: &Cut,
         message: Message,
         key: TagKey,
-    ) -> Outcome
+    ) -> Result<SealedEffect, Refusal>
         requires message { message ≡ message_of (row_of cut.now) }
-        requires len { cut.now.len ≤ 12 }
         requires tagged { cut.now.tagged ≤ length bytes.now }
         ensures { answered result (held_in self.new) (ring_of self.new) ≡ answer_of (V.holds vault.now).hash (gate_tagged (V.holds vault.now) g bytes.now cut.now key (held_in self.old) (ring_of self.old)) }
     {
-        let row = &cut.row[0..cut.len];
+        let row = cut.row.as_slice();
         match key {
             TagKey::Missing => self.hear_row(vault, g, row, true),
             TagKey::Mismatch => self.hear_row(vault, g, row, false),
             TagKey::Key(key) => {
-                if tag_is_right(vault, &key, &bytes[0..cut.tagged], &cut.tag) {
+                if tag_is_right(vault, &key, &bytes[..cut.tagged], &cut.tag) {
                     self.hear_opened(vault, g, &key, cut, message)
                 } else {
                     self.hear_row(vault, g, row, false)
@@ -86,18 +91,18 @@ impl GateLink {
     }
 
     /// Gate `g` hears bytes.
-    pub fn hear<V: Vault>(&mut self, vault: &V, g: u8, bytes: &[u8]) -> Outcome
+    #[tactic(auto, unfolding(link::specs::Gates::gate_hears_bytes))]
+    pub fn hear<V: Vault>(
+        &mut self,
+        vault: &V,
+        g: u8,
+        bytes: &[u8],
+    ) -> Result<SealedEffect, Refusal>
         ensures { answered result (held_in self.new) (ring_of self.new) ≡ answer_of (V.holds vault.now).hash (gate_hears_bytes (V.holds vault.now) g bytes.now (held_in self.old) (ring_of self.old)) }
     {
-        let cut = match Cut::parse(bytes) {
-            Err(refusal) => return Outcome::refused(refusal),
-            Ok(cut) => cut,
-        };
-        let message = match self.end.judge(g, self.end.many, &cut.row[0..cut.len], true) {
-            Err(refusal) => return Outcome::refused(refusal),
-            Ok(message) => message,
-        };
-        let key = self.tag_key(vault, &message, &cut.a, &cut.b);
+        let cut = Cut::parse(bytes)?;
+        let message = self.end.judge(g, self.end.many, cut.row.as_slice(), true)?;
+        let key = self.tag_key(vault, &message, &cut.nonces);
         self.hear_tagged(vault, g, bytes, &cut, message, key)
     }
 }

@@ -1,17 +1,16 @@
 //! What a gate says, sealed with the keys that it holds.
 ghost use Rattle.std.specs.Prelude.{◌≡◌, map};
-ghost use Rattle.octets.specs.Text.{text};
-ghost use Rattle.sealing.specs.Seal.{noughts, octets_sealed};
+ghost use Rattle.sealing.specs.Seal.{octets_sealed};
 ghost use Rattle.endpoint.specs.Effects.{listed};
 ghost use Rattle.link.specs.Answers.{texts};
 ghost use Rattle.link.specs.Gates.{gate_seals, sealed_carrying, carried_by};
 ghost use Rattle.gateradio.specs.State.{ring_of};
 
 use crate::held::GateLink;
-use crate::keys::NO_PAIR;
+use endpoint::Effect;
 use frame::Message;
-use link::PairKeys;
-use octets::Octets;
+use link::{PairKeys, SealedEffect};
+use octets::{Nonces, Octets};
 use sealing::{Vault, seal};
 
 impl GateLink {
@@ -22,17 +21,28 @@ impl GateLink {
     {
         match message {
             Message::Begin { hand, .. } => {
-                let a = self.keys_for(*hand).anonce;
-                PairKeys { a, ..NO_PAIR }
+                let anonce = self.handheld(*hand).keys.anonce;
+                let nonces = Nonces {
+                    anonce,
+                    ..Nonces::NONE
+                };
+                PairKeys {
+                    nonces,
+                    ..PairKeys::NONE
+                }
             }
-            Message::Take { pair, .. } => self.keys_for(pair.hand).offered,
-            Message::Renew { pair, .. } => self.keys_for(pair.hand).installed,
-            Message::Load { pair, .. } => self.keys_for(pair.hand).installed,
+            Message::Take { pair, .. } => self.handheld(pair.hand).keys.offered,
+            Message::Renew { pair, .. } | Message::Load { pair, .. } => {
+                self.handheld(pair.hand).keys.installed
+            }
             Message::All { .. } => {
                 let key = self.group;
-                PairKeys { key, ..NO_PAIR }
+                PairKeys {
+                    key,
+                    ..PairKeys::NONE
+                }
             }
-            Message::Reply { .. } | Message::Taken { .. } => NO_PAIR,
+            Message::Reply { .. } | Message::Taken { .. } => PairKeys::NONE,
         }
     }
 
@@ -46,27 +56,26 @@ impl GateLink {
         }
     }
 
-    fn say_one<V: Vault>(&self, vault: &V, message: &Message) -> Octets
-        ensures { text result ≡ octets_sealed (V.holds vault.now).hash (gate_seals (ring_of self.now) message.now) }
+    /// A message in bytes.
+    fn say<V: Vault>(&self, vault: &V, message: &Message) -> Octets
+        ensures { result ≡ octets_sealed (V.holds vault.now).hash (gate_seals (ring_of self.now) message.now) }
     {
-        let keys = self.keys_of(message);
         seal(
             vault,
             message,
-            &keys.a,
-            &keys.b,
-            &keys.key,
+            &self.keys_of(message),
             &self.carried(message),
         )
     }
 
-    /// What is said, in bytes.
-    pub(crate) fn say<V: Vault>(&self, vault: &V, message: Option<Message>) -> Option<Octets>
-        ensures { texts result ≡ map (octets_sealed (V.holds vault.now).hash) (map (gate_seals (ring_of self.now)) (listed message)) }
+    /// What comes of the rules, with what they say in bytes.
+    pub(crate) fn sealed<V: Vault>(&self, vault: &V, effect: Effect) -> SealedEffect
+        ensures says { texts result.says ≡ map (octets_sealed (V.holds vault.now).hash) (map (gate_seals (ring_of self.now)) (listed effect.says)) }
+        ensures delivers { result.delivers ≡ effect.delivers }
     {
-        match message {
-            Some(message) => Some(self.say_one(vault, &message)),
-            None => None,
+        SealedEffect {
+            says: effect.says.map(|message| self.say(vault, &message)),
+            delivers: effect.delivers,
         }
     }
 }

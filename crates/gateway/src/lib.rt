@@ -4,7 +4,6 @@
 
 mod calls;
 mod gateway;
-mod input;
 mod peer;
 mod post;
 mod rules;

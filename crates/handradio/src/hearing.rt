@@ -9,37 +9,39 @@ ghost use Rattle.link.specs.Answers.{answered};
 ghost use Rattle.handradio.specs.State.{held_in, ring_of};
 
 use crate::held::HandLink;
-use frame::{Message, ROW};
-use link::{GateKeys, Outcome, PairKeys, TagKey, open_message};
-use octets::Cut;
+use frame::{Message, Nonce, Refusal};
+use handset::Hand;
+use link::{GateKeys, PairKeys, SealedEffect, TagKey, open_message};
+use octets::{Cut, Nonces};
+use protocol::COUNTER_LIMIT;
 use sealing::{Vault, nonce, open_key, pair_key, tag_is_right};
-
-/// Nobody draws more nonces.
-const LIMIT: u64 = 1 << 48;
 
 impl HandLink {
     /// Handheld `s` hears a row, as the rules have it, and seals what it says.
-    fn hear_row<V: Vault>(&mut self, vault: &V, s: u16, row: &[u64], genuine: bool) -> Outcome
+    fn hear_row<V: Vault>(
+        &mut self,
+        vault: &V,
+        s: u16,
+        row: &[u64],
+        genuine: bool,
+    ) -> Result<SealedEffect, Refusal>
         ensures { answered result (held_in self.new) (ring_of self.new) ≡ answer_of (V.holds vault.now).hash (hand_by_row s (record { row = row.now; genuine = genuine }) (held_in self.old) (ring_of self.old)) }
     {
         let gates = self.end.many;
-        match self.end.hear_row(gates, s, row, genuine) {
-            Err(refusal) => Outcome::refused(refusal),
-            Ok(effect) => Outcome {
-                refusal: None,
-                says: self.say(vault, effect.says),
-                delivers: effect.delivers,
-            },
-        }
+        let effect = self.end.hear_row(gates, s, row, genuine)?;
+        Ok(self.sealed(vault, effect))
     }
 
-    /// A message whose row stands in its places.
-    fn hear_message<V: Vault>(&mut self, vault: &V, s: u16, message: Message) -> Outcome
+    /// A message whose tag is right.
+    fn hear_message<V: Vault>(
+        &mut self,
+        vault: &V,
+        s: u16,
+        message: Message,
+    ) -> Result<SealedEffect, Refusal>
         ensures { answered result (held_in self.new) (ring_of self.new) ≡ answer_of (V.holds vault.now).hash (hand_by_row s (record { row = code message; genuine = true }) (held_in self.old) (ring_of self.old)) }
     {
-        let mut row = [0; ROW];
-        let len = message.write(&mut row);
-        self.hear_row(vault, s, &row[..len as usize], true)
+        self.hear_row(vault, s, message.row().as_slice(), true)
     }
 
     /// A message behind a right tag: what it carries is opened and kept, and then it is heard.
@@ -50,7 +52,7 @@ impl HandLink {
         key: &[u8; 32],
         cut: &Cut,
         message: Message,
-    ) -> Outcome
+    ) -> Result<SealedEffect, Refusal>
         requires { message ≡ message_of (row_of cut.now) }
         ensures { answered result (held_in self.new) (ring_of self.new) ≡ answer_of (V.holds vault.now).hash (hand_by_row s (record { row = code (opened_with (V.holds vault.now).hash key.now cut.now); genuine = true }) (held_in self.old) (hand_keys_after (group_with (V.holds vault.now).hash key.now cut.now) (message_of (row_of cut.now)) (held_in self.old) (ring_of self.old))) }
     {
@@ -63,9 +65,7 @@ impl HandLink {
         }
         self.hear_message(vault, s, open_message(vault, key, message, &cut.body))
     }
-}
 
-impl HandLink {
     /// A message with a tag, judged by the key that this handheld has for it.
     fn hear_tagged<V: Vault>(
         &mut self,
@@ -75,18 +75,17 @@ impl HandLink {
         cut: &Cut,
         message: Message,
         key: TagKey,
-    ) -> Outcome
+    ) -> Result<SealedEffect, Refusal>
         requires message { message ≡ message_of (row_of cut.now) }
-        requires len { cut.now.len ≤ 12 }
         requires tagged { cut.now.tagged ≤ length bytes.now }
         ensures { answered result (held_in self.new) (ring_of self.new) ≡ answer_of (V.holds vault.now).hash (hand_tagged (V.holds vault.now) s bytes.now cut.now key (held_in self.old) (ring_of self.old)) }
     {
-        let row = &cut.row[0..cut.len];
+        let row = cut.row.as_slice();
         match key {
             TagKey::Missing => self.hear_row(vault, s, row, true),
             TagKey::Mismatch => self.hear_row(vault, s, row, false),
             TagKey::Key(key) => {
-                if tag_is_right(vault, &key, &bytes[0..cut.tagged], &cut.tag) {
+                if tag_is_right(vault, &key, &bytes[..cut.tagged], &cut.tag) {
                     self.hear_opened(vault, s, &key, cut, message)
                 } else {
                     self.hear_row(vault, s, row, false)
@@ -99,55 +98,65 @@ impl HandLink {
     fn draw<V: Vault>(&self, vault: &V, s: u16) -> Option<[u8; 32]>
         ensures { elim result [ Some b ↦ (can_draw (V.holds vault.now) self.now.end.draws ≡ true) × (b ≡ hand_nonce (V.holds vault.now) s (held_in self.now)) | None ↦ can_draw (V.holds vault.now) self.now.end.draws ≡ false ] }
     {
-        if self.end.draws >= LIMIT {
+        let index = self.end.draws;
+        if index >= COUNTER_LIMIT {
             return None;
         }
-        nonce(vault, 1, s as u64, self.end.draws)
+        let snonce = Nonce {
+            kind: 1,
+            node: s as u64,
+            index,
+        };
+        nonce(vault, snonce)
     }
 
     /// The keys of a pair that is offered to a gate.
-    fn offer<V: Vault>(&mut self, vault: &V, gate: u64, a: &[u8; 32], b: &[u8; 32])
-        ensures keys { ring_of self.new ≡ slice_set (ring_of self.old) gate (with_offered_keys (record { a = a.now; b = b.now; key = pairwise_key (V.holds vault.now) gate a.now b.now }) (gate_keys gate (ring_of self.old))) }
+    fn offer<V: Vault>(&mut self, vault: &V, gate: u64, nonces: Nonces)
+        ensures keys { ring_of self.new ≡ slice_set (ring_of self.old) gate (with_offered_keys (record { nonces = nonces; key = pairwise_key (V.holds vault.now) gate nonces.anonce nonces.snonce }) (gate_keys gate (ring_of self.old))) }
         ensures same { self.new.end ≡ self.old.end }
     {
         if gate < self.end.many as u64 {
-            let key = pair_key(vault, gate as u16, a, b);
-            let offered = PairKeys { a: *a, b: *b, key };
-            let keys = self.keys_for(gate);
+            let key = pair_key(vault, gate as u16, &nonces);
+            let offered = PairKeys { nonces, key };
+            let keys = self.gate(gate).keys;
             self.put_keys(gate, GateKeys { offered, ..keys });
         }
     }
 
     /// A begin: a nonce is drawn, if there is entropy for it, and the keys of the pair of both are offered.
-    fn hear_begin<V: Vault>(&mut self, vault: &V, s: u16, cut: &Cut, gate: u64) -> Outcome
-        requires { cut.now.len ≤ 12 }
+    fn hear_begin<V: Vault>(
+        &mut self,
+        vault: &V,
+        s: u16,
+        cut: &Cut,
+        gate: u64,
+    ) -> Result<SealedEffect, Refusal>
         ensures { answered result (held_in self.new) (ring_of self.new) ≡ answer_of (V.holds vault.now).hash (hand_begun (V.holds vault.now) s gate cut.now (held_in self.old) (ring_of self.old)) }
     {
-        match self.draw(vault, s) {
-            None => Outcome::nothing(),
-            Some(b) => {
-                self.offer(vault, gate, &cut.a, &b);
-                self.hear_row(vault, s, &cut.row[0..cut.len], true)
-            }
-        }
+        let Some(snonce) = self.draw(vault, s) else {
+            return Ok(SealedEffect::nothing());
+        };
+        let anonce = cut.nonces.anonce;
+        self.offer(vault, gate, Nonces { anonce, snonce });
+        self.hear_row(vault, s, cut.row.as_slice(), true)
     }
 
     /// Handheld `s` hears bytes.
-    pub fn hear<V: Vault>(&mut self, vault: &V, s: u16, bytes: &[u8]) -> Outcome
+    #[tactic(auto, unfolding(link::specs::Hands::hand_hears_bytes))]
+    pub fn hear<V: Vault>(
+        &mut self,
+        vault: &V,
+        s: u16,
+        bytes: &[u8],
+    ) -> Result<SealedEffect, Refusal>
         ensures { answered result (held_in self.new) (ring_of self.new) ≡ answer_of (V.holds vault.now).hash (hand_hears_bytes (V.holds vault.now) s bytes.now (held_in self.old) (ring_of self.old)) }
     {
-        let cut = match Cut::parse(bytes) {
-            Err(refusal) => return Outcome::refused(refusal),
-            Ok(cut) => cut,
-        };
-        let message = match self.end.judge(self.end.many, s, &cut.row[0..cut.len], true) {
-            Err(refusal) => return Outcome::refused(refusal),
-            Ok(message) => message,
-        };
+        let cut = Cut::parse(bytes)?;
+        let message = self.end.judge(self.end.many, s, cut.row.as_slice(), true)?;
         match message {
             Message::Begin { gate, .. } => self.hear_begin(vault, s, &cut, gate),
             _ => {
-                let key = self.tag_key(&message, &cut.a, &cut.b);
+                let key = self.tag_key(&message, &cut.nonces);
                 self.hear_tagged(vault, s, bytes, &cut, message, key)
             }
         }

@@ -1,40 +1,18 @@
 //! The keys that a handheld holds: looked up, and kept.
-ghost use Rattle.std.specs.Prelude.{◌≡◌, length, replicate, slice_set};
+ghost use Rattle.std.specs.Prelude.{◌≡◌, ◌==◌, ◌&&◌, if◌then◌else◌, length, nat_lt, replicate, slice_set};
 ghost use Rattle.protocol.specs.Held.{new_hand};
 ghost use Rattle.protocol.specs.Rules.{gate_peer};
-ghost use Rattle.link.specs.Hands.{no_gate_keys, gate_keys, hand_held_key, hand_tag_key, learns_key as learns_key_of, took_keys, renewed_keys, hand_keys_after};
+ghost use Rattle.link.specs.declared.keys.TagKey.TheVariants.{Key, Missing};
+ghost use Rattle.link.specs.Keys.{held_key as held_key_of};
+ghost use Rattle.link.specs.Hands.{no_gate_keys, gate_keys, hand_tag_key, learns_key, took_keys, renewed_keys, hand_keys_after};
 ghost use Rattle.handradio.specs.State.{held_in, ring_of};
 
-use crate::held::HandLink;
+use crate::held::{Gate, HandLink};
 use endpoint::is_this;
 use frame::{Message, Pair};
 use handset::Handset;
 use link::{GateKeys, PairKeys, TagKey, held_key};
-use protocol::{Endpoint, GatePeer};
-
-const NO_PAIR: PairKeys = PairKeys {
-    a: [0; 32],
-    b: [0; 32],
-    key: [0; 32],
-};
-
-const NO_KEYS: GateKeys = GateKeys {
-    offered: NO_PAIR,
-    installed: NO_PAIR,
-    group: [0; 32],
-};
-
-const NEW: GatePeer = GatePeer {
-    end: Endpoint {
-        offered: None,
-        key: None,
-        send: 0,
-        floor: 0,
-        round: 0,
-    },
-    group: 0,
-    floor: 0,
-};
+use octets::Nonces;
 
 impl HandLink {
     /// Nothing is held yet, for so many gates.
@@ -44,33 +22,25 @@ impl HandLink {
     {
         HandLink {
             end: Handset::new(gates),
-            keys: [NO_KEYS; 255],
+            keys: [GateKeys::NONE; 255],
         }
     }
 
     /// What is held for a gate; nothing for one that is not there.
-    pub(crate) fn peer(&self, gate: u64) -> GatePeer
-        ensures { result ≡ gate_peer gate (held_in self.now) }
+    pub(crate) fn gate(&self, gate: u64) -> Gate
+        ensures peer { result.peer ≡ gate_peer gate (held_in self.now) }
+        ensures keys { result.keys ≡ gate_keys gate (ring_of self.now) }
     {
-        if gate < self.end.many as u64 {
-            self.end.peers[gate as usize]
-        } else {
-            NEW
+        if gate >= self.end.many as u64 {
+            return Gate::NONE;
         }
-    }
-
-    /// The keys beside it.
-    pub(crate) fn keys_for(&self, gate: u64) -> GateKeys
-        ensures { result ≡ gate_keys gate (ring_of self.now) }
-    {
-        if gate < self.end.many as u64 {
-            self.keys[gate as usize]
-        } else {
-            NO_KEYS
-        }
+        let peer = self.end.peers[gate as usize];
+        let keys = self.keys[gate as usize];
+        Gate { peer, keys }
     }
 
     /// Keys put down for a gate, if it is there.
+    #[tactic(auto, using(link::proofs::Tables::put))]
     pub(crate) fn put_keys(&mut self, gate: u64, keys: GateKeys)
         ensures keys { ring_of self.new ≡ slice_set (ring_of self.old) gate keys }
         ensures same { self.new.end ≡ self.old.end }
@@ -85,42 +55,19 @@ impl HandLink {
         ensures keys { ring_of self.new ≡ replicate (length (ring_of self.old)) no_gate_keys }
         ensures same { self.new.end ≡ self.old.end }
     {
-        self.keys = [NO_KEYS; 255];
-    }
-
-    /// The key of a pair that is offered or in use.
-    fn pair_key(&self, pair: &Pair, a: &[u8; 32], b: &[u8; 32]) -> TagKey
-        ensures { result ≡ hand_held_key (held_in self.now) (ring_of self.now) a.now b.now pair.now }
-    {
-        let keys = self.keys_for(pair.gate);
-        held_key(
-            pair,
-            a,
-            b,
-            &self.peer(pair.gate).end,
-            &keys.offered,
-            &keys.installed,
-        )
+        self.keys = [GateKeys::NONE; 255];
     }
 
     /// The key of a message's tag, if this handheld has it.
-    pub(crate) fn tag_key(&self, message: &Message, a: &[u8; 32], b: &[u8; 32]) -> TagKey
-        ensures { result ≡ hand_tag_key (held_in self.now) (ring_of self.now) a.now b.now message.now }
+    pub(crate) fn tag_key(&self, message: &Message, nonces: &Nonces) -> TagKey
+        ensures { result ≡ hand_tag_key (held_in self.now) (ring_of self.now) nonces.now.anonce nonces.now.snonce message.now }
     {
         match message {
-            Message::Begin { .. } | Message::Reply { .. } | Message::Taken { .. } => {
-                TagKey::Missing
-            }
-            Message::Take { pair, .. } => self.pair_key(pair, a, b),
-            Message::Renew { pair, .. } => self.pair_key(pair, a, b),
-            Message::Load { pair, .. } => self.pair_key(pair, a, b),
-            Message::All { gate, group, .. } => {
-                if *group > 0 && *group == self.peer(*gate).group {
-                    TagKey::Key(self.keys_for(*gate).group)
-                } else {
-                    TagKey::Missing
-                }
-            }
+            Message::Begin { .. } | Message::Reply { .. } | Message::Taken { .. } =>
+                TagKey::Missing,
+            Message::Take { pair, .. } | Message::Renew { pair, .. } | Message::Load { pair, .. } =>
+                self.gate(pair.gate).pair_key(pair, nonces),
+            Message::All { gate, group, .. } => self.gate(*gate).group_key(*group),
         }
     }
 
@@ -136,13 +83,7 @@ impl HandLink {
                 pair,
                 ..
             } => {
-                let keys = took(
-                    number,
-                    group,
-                    &pair,
-                    &self.peer(pair.gate),
-                    self.keys_for(pair.gate),
-                );
+                let keys = self.gate(pair.gate).took(number, group, &pair);
                 self.put_keys(pair.gate, keys);
             }
             Message::Renew {
@@ -151,8 +92,7 @@ impl HandLink {
                 pair,
                 ..
             } => {
-                let peer = self.peer(pair.gate);
-                let keys = renewed(round, number, group, &pair, &peer, self.keys_for(pair.gate));
+                let keys = self.gate(pair.gate).renewed(round, number, group, &pair);
                 self.put_keys(pair.gate, keys);
             }
             _ => {}
@@ -160,46 +100,64 @@ impl HandLink {
     }
 }
 
-/// A group key with a higher number is had from now on; one told again keeps its bytes.
-fn learns(number: u64, group: [u8; 32], peer: &GatePeer, keys: GateKeys) -> GateKeys
-    ensures { result ≡ learns_key_of number group peer.now keys }
-{
-    if peer.group < number {
-        GateKeys { group, ..keys }
-    } else {
-        keys
+impl Gate {
+    /// The key of a pair that is offered or in use.
+    fn pair_key(&self, pair: &Pair, nonces: &Nonces) -> TagKey
+        ensures { result ≡ held_key_of pair.now nonces.now.anonce nonces.now.snonce self.now.peer.end self.now.keys.offered self.now.keys.installed }
+    {
+        held_key(
+            pair,
+            nonces,
+            &self.peer.end,
+            &self.keys.offered,
+            &self.keys.installed,
+        )
     }
-}
 
-/// A take for the pair offered: its keys are those in use, and nothing is offered.
-fn took(number: u64, group: [u8; 32], pair: &Pair, peer: &GatePeer, keys: GateKeys) -> GateKeys
-    ensures { result ≡ took_keys number group pair.now peer.now keys }
-{
-    if !is_this(pair, &peer.end.offered) {
-        return keys;
+    /// The group key with a number, if it is the one held.
+    fn group_key(&self, number: u64) -> TagKey
+        ensures { result ≡ (if nat_lt 0 number && number == self.now.peer.group then Key self.now.keys.group else Missing) }
+    {
+        if number > 0 && number == self.peer.group {
+            TagKey::Key(self.keys.group)
+        } else {
+            TagKey::Missing
+        }
     }
-    let installed = GateKeys {
-        offered: NO_PAIR,
-        installed: keys.offered,
-        ..keys
-    };
-    learns(number, group, peer, installed)
-}
 
-/// A renew under the pair in use, of a round above its own.
-fn renewed(
-    round: u64,
-    number: u64,
-    group: [u8; 32],
-    pair: &Pair,
-    peer: &GatePeer,
-    keys: GateKeys,
-) -> GateKeys
-    ensures { result ≡ renewed_keys round number group pair.now peer.now keys }
-{
-    if is_this(pair, &peer.end.key) && peer.end.round < round {
-        learns(number, group, peer, keys)
-    } else {
-        keys
+    /// A group key with a higher number is had from now on; one told again keeps its bytes.
+    fn learns(&self, number: u64, group: [u8; 32]) -> GateKeys
+        ensures { result ≡ learns_key number group self.now.peer self.now.keys }
+    {
+        if self.peer.group < number {
+            GateKeys { group, ..self.keys }
+        } else {
+            self.keys
+        }
+    }
+
+    /// A take for the pair offered: its keys are those in use, and nothing is offered.
+    fn took(&self, number: u64, group: [u8; 32], pair: &Pair) -> GateKeys
+        ensures { result ≡ took_keys number group pair.now self.now.peer self.now.keys }
+    {
+        if !is_this(pair, &self.peer.end.offered) {
+            return self.keys;
+        }
+        GateKeys {
+            offered: PairKeys::NONE,
+            installed: self.keys.offered,
+            ..self.learns(number, group)
+        }
+    }
+
+    /// A renew under the pair in use, of a round above its own.
+    fn renewed(&self, round: u64, number: u64, group: [u8; 32], pair: &Pair) -> GateKeys
+        ensures { result ≡ renewed_keys round number group pair.now self.now.peer self.now.keys }
+    {
+        if is_this(pair, &self.peer.end.key) && self.peer.end.round < round {
+            self.learns(number, group)
+        } else {
+            self.keys
+        }
     }
 }

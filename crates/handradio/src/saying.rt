@@ -1,6 +1,5 @@
 //! What a handheld says, sealed with the keys that it holds.
-ghost use Rattle.std.specs.Prelude.{◌≡◌, map, Some, None};
-ghost use Rattle.octets.specs.Text.{text};
+ghost use Rattle.std.specs.Prelude.{◌≡◌, map};
 ghost use Rattle.sealing.specs.Seal.{octets_sealed};
 ghost use Rattle.endpoint.specs.Effects.{listed};
 ghost use Rattle.link.specs.Answers.{texts};
@@ -8,16 +7,11 @@ ghost use Rattle.link.specs.Hands.{hand_seals, sealed_by};
 ghost use Rattle.handradio.specs.State.{ring_of};
 
 use crate::held::HandLink;
+use endpoint::Effect;
 use frame::Message;
-use link::PairKeys;
+use link::{PairKeys, SealedEffect};
 use octets::Octets;
 use sealing::{Vault, seal};
-
-const NO_PAIR: PairKeys = PairKeys {
-    a: [0; 32],
-    b: [0; 32],
-    key: [0; 32],
-};
 
 impl HandLink {
     /// The keys that a message is sealed with: a reply with those of the pair offered, all else with those in use.
@@ -25,27 +19,32 @@ impl HandLink {
         ensures { sealed_by result message.now ≡ hand_seals (ring_of self.now) message.now }
     {
         match message {
-            Message::Reply { pair } => self.keys_for(pair.gate).offered,
-            Message::Taken { pair } => self.keys_for(pair.gate).installed,
-            Message::Load { pair, .. } => self.keys_for(pair.gate).installed,
-            _ => NO_PAIR,
+            Message::Reply { pair } => self.gate(pair.gate).keys.offered,
+            Message::Taken { pair } | Message::Load { pair, .. } => {
+                self.gate(pair.gate).keys.installed
+            }
+            Message::Begin { .. }
+            | Message::Take { .. }
+            | Message::Renew { .. }
+            | Message::All { .. } => PairKeys::NONE,
         }
     }
 
-    fn say_one<V: Vault>(&self, vault: &V, message: &Message) -> Octets
-        ensures { text result ≡ octets_sealed (V.holds vault.now).hash (hand_seals (ring_of self.now) message.now) }
+    /// A message in bytes.
+    fn say<V: Vault>(&self, vault: &V, message: &Message) -> Octets
+        ensures { result ≡ octets_sealed (V.holds vault.now).hash (hand_seals (ring_of self.now) message.now) }
     {
-        let keys = self.keys_of(message);
-        seal(vault, message, &keys.a, &keys.b, &keys.key, &[0; 32])
+        seal(vault, message, &self.keys_of(message), &[0; 32])
     }
 
-    /// What is said, in bytes.
-    pub(crate) fn say<V: Vault>(&self, vault: &V, message: Option<Message>) -> Option<Octets>
-        ensures { texts result ≡ map (octets_sealed (V.holds vault.now).hash) (map (hand_seals (ring_of self.now)) (listed message)) }
+    /// What comes of a rule, with what is said in bytes.
+    pub(crate) fn sealed<V: Vault>(&self, vault: &V, effect: Effect) -> SealedEffect
+        ensures says { texts result.says ≡ map (octets_sealed (V.holds vault.now).hash) (map (hand_seals (ring_of self.now)) (listed effect.says)) }
+        ensures delivers { result.delivers ≡ effect.delivers }
     {
-        match message {
-            Some(message) => Some(self.say_one(vault, &message)),
-            None => None,
+        SealedEffect {
+            says: effect.says.map(|message| self.say(vault, &message)),
+            delivers: effect.delivers,
         }
     }
 }

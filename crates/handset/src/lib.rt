@@ -5,7 +5,6 @@
 mod calls;
 mod hand;
 mod handset;
-mod input;
 mod peer;
 mod rules;
 

@@ -1,33 +1,19 @@
 //! The rules of a handheld: one peer is lent to its rule at a time.
 ghost use Rattle.std.specs.Prelude.{◌≡◌, true};
+ghost use Rattle.std.specs.Fn.{FnOnceReturnsAtMut};
 ghost use Rattle.frame.specs.Row.{code, is_small};
 ghost use Rattle.protocol.specs.Held.{new_hand};
 ghost use Rattle.protocol.specs.Rules.{hand_at, hand_begins, hand_hears, hand_send};
 ghost use Rattle.endpoint.specs.Effects.{out_of};
-ghost use Rattle.handset.specs.Peers.{is_small_input, rule_of};
+ghost use Rattle.endpoint.specs.Steps.{Keeps};
+ghost use Rattle.handset.specs.Peers.{is_bounded_peer, StepsAt};
 ghost use Rattle.handset.specs.State.{state_of};
 
 use crate::handset::Handset;
-use crate::input::Input;
-use crate::peer;
-use endpoint::Effect;
+use crate::peer::{hear_all, hear_begin, hear_renew, hear_take};
+use endpoint::{Effect, hear_load, send_load};
 use frame::{Direction, Message, Nonce, Pair};
-use protocol::{Endpoint, GatePeer};
-
-/// Nobody draws more nonces.
-const LIMIT: u64 = 1 << 48;
-
-const NEW: GatePeer = GatePeer {
-    end: Endpoint {
-        offered: None,
-        key: None,
-        send: 0,
-        floor: 0,
-        round: 0,
-    },
-    group: 0,
-    floor: 0,
-};
+use protocol::{COUNTER_LIMIT, GatePeer};
 
 impl Handset {
     pub fn new(gates: u8) -> Handset
@@ -36,20 +22,21 @@ impl Handset {
         Handset {
             draws: 0,
             many: gates,
-            peers: [NEW; 255],
+            peers: [GatePeer::NEW; 255],
         }
     }
 
     /// What happens at one gate, if there is such a gate; so many nonces are drawn then.
-    fn at(&mut self, draws: u64, gate: u64, input: Input) -> Effect
-        requires { is_small_input input ≡ true }
-        ensures { out_of result (state_of self.new) ≡ hand_at draws gate (rule_of input) (state_of self.old) }
+    fn at<F: FnOnce(&mut GatePeer) -> Effect>(&mut self, draws: u64, gate: u64, step: F) -> Effect
+        requires callable { (x : _) → is_bounded_peer x.now ≡ true → F.pre step x }
+        requires bounded { Keeps is_bounded_peer (FnOnceReturnsAtMut F.FnOnce step) }
+        ensures { StepsAt (FnOnceReturnsAtMut F.FnOnce step) draws gate result (state_of self.old) (state_of self.new) }
     {
         if gate >= self.many as u64 {
             return Effect::nothing();
         }
         self.draws = draws;
-        peer::step(&mut self.peers[gate as usize], input)
+        step(&mut self.peers[gate as usize])
     }
 
     /// Draws a nonce, while it may, and offers the pair of both.
@@ -57,7 +44,7 @@ impl Handset {
         ensures { out_of result (state_of self.new) ≡ hand_begins s gate anonce (state_of self.old) }
     {
         let index = self.draws;
-        if index >= LIMIT {
+        if index >= COUNTER_LIMIT {
             return Effect::nothing();
         }
         let snonce = Nonce {
@@ -65,26 +52,24 @@ impl Handset {
             node: s,
             index,
         };
-        self.at(
-            index + 1,
+        let pair = Pair {
             gate,
-            Input::Begin {
-                pair: Pair {
-                    gate,
-                    hand: s,
-                    anonce,
-                    snonce,
-                },
-            },
-        )
+            hand: s,
+            anonce,
+            snonce,
+        };
+        self.at(index + 1, gate, |peer| hear_begin(peer, pair))
     }
 
     /// Sends a body to a gate.
     pub(crate) fn send(&mut self, gate: u64, body: u64) -> Effect
         ensures { out_of result (state_of self.new) ≡ hand_at self.old.draws gate (hand_send body) (state_of self.old) }
     {
-        let draws = self.draws;
-        self.at(draws, gate, Input::Send { body })
+        self.at(
+            self.draws,
+            gate,
+            |peer| send_load(&mut peer.end, Direction::Up, body),
+        )
     }
 
     /// Hears a message that is for it, whose numbers are below 2^49.
@@ -92,79 +77,51 @@ impl Handset {
         requires { is_small (code message) ≡ true }
         ensures { out_of result (state_of self.new) ≡ hand_hears s message (state_of self.old) }
     {
-        let draws = self.draws;
         match message {
-            Message::Begin {
-                gate,
-                hand: _,
-                anonce,
-            } => self.begin(s, gate, anonce),
-            Message::Reply { .. } => Effect::nothing(),
+            Message::Begin { gate, anonce, .. } => self.begin(s, gate, anonce),
             Message::Take {
                 group,
                 counter,
                 pair,
             } => self.at(
-                draws,
+                self.draws,
                 pair.gate,
-                Input::Take {
-                    group,
-                    counter,
-                    pair,
-                },
+                |peer| hear_take(peer, group, counter, pair),
             ),
-            Message::Taken { .. } => Effect::nothing(),
             Message::Renew {
                 round,
                 group,
                 counter,
                 pair,
-            } => {
-                self.at(
-                    draws,
-                    pair.gate,
-                    Input::Renew {
-                        round,
-                        group,
-                        counter,
-                        pair,
-                    },
-                )
-            }
+            } => self.at(
+                self.draws,
+                pair.gate,
+                |peer| hear_renew(peer, round, group, counter, pair),
+            ),
             Message::Load {
-                direction,
+                direction: Direction::Down,
                 counter,
                 body,
                 pair,
-            } => match direction {
-                Direction::Up => Effect::nothing(),
-                Direction::Down => self.at(
-                    draws,
-                    pair.gate,
-                    Input::Load {
-                        counter,
-                        body,
-                        pair,
-                    },
-                ),
-            },
+            } => self.at(self.draws, pair.gate, |peer| {
+                hear_load(&mut peer.end, Direction::Down, counter, body, pair)
+            }),
             Message::All {
                 gate,
                 group,
                 counter,
                 body,
-            } => {
-                self.at(
-                    draws,
-                    gate,
-                    Input::All {
-                        gate,
-                        group,
-                        counter,
-                        body,
-                    },
-                )
-            }
+            } => self.at(
+                self.draws,
+                gate,
+                |peer| hear_all(peer, gate, group, counter, body),
+            ),
+            Message::Reply { .. }
+            | Message::Taken { .. }
+            | Message::Load {
+                direction: Direction::Up,
+                ..
+            } => Effect::nothing(),
         }
     }
 }

@@ -16,7 +16,7 @@ use Rattle.protocol.specs.Rules.{answers, hand_peer}
 use Rattle.protocol.specs.Calls.{gate_verdict, gate_hears_row, gate_does}
 use Rattle.sealing.specs.Secrets.{Secrets, pairwise_key, group_key, nonce_bytes, entropy_at}
 use Rattle.sealing.specs.Seal.{Sealed, noughts, same_bytes}
-use Rattle.link.specs.declared.keys.PairKeys.{PairKeys}
+use Rattle.sealing.specs.declared.keys.PairKeys.{PairKeys}
 use Rattle.link.specs.declared.keys.HandKeys.{HandKeys}
 use Rattle.link.specs.declared.keys.TagKey.{TagKey}
 use Rattle.link.specs.declared.keys.TagKey.TheVariants.{Missing, Mismatch, Key}
@@ -80,15 +80,15 @@ gate_tag_key v y r a b (All g n c x) = Missing
 
 -- with which keys what it says is sealed, as they are held afterwards
 abbrev pub sealed_carrying : (group : List ℕ) → PairKeys → Message → Sealed
-sealed_carrying q k m = record { message = m; a = k.a; b = k.b; key = k.key; group = q }
+sealed_carrying q k m = record { message = m; a = k.nonces.anonce; b = k.nonces.snonce; key = k.key; group = q }
 
 -- a begin has neither seal nor tag, and only its own nonce
 abbrev pub begun_by : (anonce : List ℕ) → PairKeys
-begun_by a = record { a = a; b = noughts 32; key = noughts 32 }
+begun_by a = record { nonces = record { anonce = a; snonce = noughts 32 }; key = noughts 32 }
 
 -- a frame to all is sealed under the group key
 abbrev pub broadcast_by : (group : List ℕ) → PairKeys
-broadcast_by q = record { a = noughts 32; b = noughts 32; key = q }
+broadcast_by q = record { nonces = record { anonce = noughts 32; snonce = noughts 32 }; key = q }
 
 -- the group key, in those that carry it
 abbrev pub carried_by : GateRing → Message → List ℕ
@@ -132,7 +132,7 @@ abbrev pub gate_keys_heard : Secrets → (bytes : List ℕ) → Cut → TagKey �
 gate_keys_heard v x c Missing y r = r
 gate_keys_heard v x c Mismatch y r = r
 gate_keys_heard v x c (Key k) y r =
-    cond (tag_right v.hash k x c) (gate_keys_after (record { a = c.a; b = c.b; key = k }) (message_of (row_of c)) y r) r
+    cond (tag_right v.hash k x c) (gate_keys_after (record { nonces = c.nonces; key = k }) (message_of (row_of c)) y r) r
 
 -- gate g hears a row as the rules have it
 abbrev pub gate_by_row : (g : ℕ) → Heard → GateState → GateRing → Reception GateState GateRing
@@ -145,7 +145,7 @@ gate_tagged v g x c t y r = gate_by_row g (heard_by v.hash x c t) y (gate_keys_h
 -- a row that is no message or not for this end is refused before its tag is looked at
 abbrev pub gate_row : Secrets → (g : ℕ) → (bytes : List ℕ) → Cut → Option Refusal → GateState → GateRing → Reception GateState GateRing
 gate_row v g x c (Some e) y r = refused e y r
-gate_row v g x c None y r = gate_tagged v g x c (gate_tag_key v y r c.a c.b (message_of (row_of c))) y r
+gate_row v g x c None y r = gate_tagged v g x c (gate_tag_key v y r c.nonces.anonce c.nonces.snonce (message_of (row_of c))) y r
 
 abbrev pub gate_cut : Secrets → (g : ℕ) → (bytes : List ℕ) → Result Cut Refusal → GateState → GateRing → Reception GateState GateRing
 gate_cut v g x (Err e) y r = refused e y r

@@ -16,7 +16,7 @@ use Rattle.protocol.specs.Rules.{gate_peer}
 use Rattle.protocol.specs.Calls.{hand_verdict, hand_hears_row, hand_does}
 use Rattle.sealing.specs.Secrets.{Secrets, pairwise_key, nonce_bytes, entropy_at}
 use Rattle.sealing.specs.Seal.{Sealed, noughts}
-use Rattle.link.specs.declared.keys.PairKeys.{PairKeys}
+use Rattle.sealing.specs.declared.keys.PairKeys.{PairKeys}
 use Rattle.link.specs.declared.keys.GateKeys.{GateKeys}
 use Rattle.link.specs.declared.keys.TagKey.{TagKey}
 use Rattle.link.specs.declared.keys.TagKey.TheVariants.{Missing, Mismatch, Key}
@@ -58,7 +58,7 @@ hand_tag_key y ks a b (All g n c x) = cond (nat_lt 0 n && n == (gate_peer g y).g
 
 -- with which keys what it says is sealed, as they are held afterwards
 abbrev pub sealed_by : PairKeys → Message → Sealed
-sealed_by k m = record { message = m; a = k.a; b = k.b; key = k.key; group = noughts 32 }
+sealed_by k m = record { message = m; a = k.nonces.anonce; b = k.nonces.snonce; key = k.key; group = noughts 32 }
 
 abbrev pub hand_seals : List GateKeys → Message → Sealed
 hand_seals ks (Begin g h n) = sealed_by no_pair_keys (Begin g h n)
@@ -103,7 +103,7 @@ abbrev pub hand_nonce : Secrets → (s : ℕ) → HandState → List ℕ
 hand_nonce v s y = nonce_bytes 1 s y.draws (entropy_at v y.draws)
 
 abbrev pub begun_keys : Secrets → (s gate : ℕ) → (a : List ℕ) → HandState → PairKeys
-begun_keys v s g a y = record { a = a; b = hand_nonce v s y; key = pairwise_key v g a (hand_nonce v s y) }
+begun_keys v s g a y = record { nonces = record { anonce = a; snonce = hand_nonce v s y }; key = pairwise_key v g a (hand_nonce v s y) }
 
 abbrev pub hand_tagged : Secrets → (s : ℕ) → (bytes : List ℕ) → Cut → TagKey → HandState → List GateKeys → Reception HandState (List GateKeys)
 hand_tagged v s x c t y ks = hand_by_row s (heard_by v.hash x c t) y (hand_keys_heard v x c t y ks)
@@ -111,16 +111,16 @@ hand_tagged v s x c t y ks = hand_by_row s (heard_by v.hash x c t) y (hand_keys_
 -- a begin has no tag; with no entropy for a nonce nothing comes of it
 abbrev pub hand_begun : Secrets → (s gate : ℕ) → Cut → HandState → List GateKeys → Reception HandState (List GateKeys)
 hand_begun v s g c y ks =
-    cond (can_draw v y.draws) (hand_by_row s (unopened true c) y (slice_set ks g (with_offered_keys (begun_keys v s g c.a y) (gate_keys g ks)))) (nothing y ks)
+    cond (can_draw v y.draws) (hand_by_row s (unopened true c) y (slice_set ks g (with_offered_keys (begun_keys v s g c.nonces.anonce y) (gate_keys g ks)))) (nothing y ks)
 
 abbrev pub hand_message : Secrets → (s : ℕ) → (bytes : List ℕ) → Cut → Message → HandState → List GateKeys → Reception HandState (List GateKeys)
 hand_message v s x c (Begin g h n) y ks = hand_begun v s g c y ks
-hand_message v s x c (Reply p) y ks = hand_tagged v s x c (hand_tag_key y ks c.a c.b (Reply p)) y ks
-hand_message v s x c (Take n d p) y ks = hand_tagged v s x c (hand_tag_key y ks c.a c.b (Take n d p)) y ks
-hand_message v s x c (Taken p) y ks = hand_tagged v s x c (hand_tag_key y ks c.a c.b (Taken p)) y ks
-hand_message v s x c (Renew r n d p) y ks = hand_tagged v s x c (hand_tag_key y ks c.a c.b (Renew r n d p)) y ks
-hand_message v s x c (Load d n b p) y ks = hand_tagged v s x c (hand_tag_key y ks c.a c.b (Load d n b p)) y ks
-hand_message v s x c (All g n d b) y ks = hand_tagged v s x c (hand_tag_key y ks c.a c.b (All g n d b)) y ks
+hand_message v s x c (Reply p) y ks = hand_tagged v s x c (hand_tag_key y ks c.nonces.anonce c.nonces.snonce (Reply p)) y ks
+hand_message v s x c (Take n d p) y ks = hand_tagged v s x c (hand_tag_key y ks c.nonces.anonce c.nonces.snonce (Take n d p)) y ks
+hand_message v s x c (Taken p) y ks = hand_tagged v s x c (hand_tag_key y ks c.nonces.anonce c.nonces.snonce (Taken p)) y ks
+hand_message v s x c (Renew r n d p) y ks = hand_tagged v s x c (hand_tag_key y ks c.nonces.anonce c.nonces.snonce (Renew r n d p)) y ks
+hand_message v s x c (Load d n b p) y ks = hand_tagged v s x c (hand_tag_key y ks c.nonces.anonce c.nonces.snonce (Load d n b p)) y ks
+hand_message v s x c (All g n d b) y ks = hand_tagged v s x c (hand_tag_key y ks c.nonces.anonce c.nonces.snonce (All g n d b)) y ks
 
 -- a row that is no message or not for this end is refused before its tag is looked at
 abbrev pub hand_row : Secrets → (s : ℕ) → (bytes : List ℕ) → Cut → Option Refusal → HandState → List GateKeys → Reception HandState (List GateKeys)

@@ -11,12 +11,12 @@ use Rattle.protocol.specs.Held.{is_this}
 use Rattle.protocol.specs.Rules.{Out, has_next}
 use Rattle.sealing.specs.Secrets.{Hash, Secrets, has_entropy}
 use Rattle.sealing.specs.Seal.{Sealed, noughts, same_bytes, tag_of, opened_body, opened_key, octets_sealed}
-use Rattle.link.specs.declared.keys.PairKeys.{PairKeys}
+use Rattle.sealing.specs.declared.keys.PairKeys.{PairKeys}
 use Rattle.link.specs.declared.keys.TagKey.{TagKey}
 use Rattle.link.specs.declared.keys.TagKey.TheVariants.{Missing, Mismatch, Key}
 
 abbrev pub no_pair_keys : PairKeys
-no_pair_keys = record { a = noughts 32; b = noughts 32; key = noughts 32 }
+no_pair_keys = record { nonces = record { anonce = noughts 32; snonce = noughts 32 }; key = noughts 32 }
 
 -- a nonce is drawn while there is one, and entropy for it
 abbrev pub can_draw : Secrets → (draws : ℕ) → Bool
@@ -57,7 +57,7 @@ answer_of H r = record { refusal = r.refusal; held = r.held; keys = r.keys; says
 
 -- the key held for a pair, if both nonces are those held, to the last byte
 abbrev pub matching : (a b : List ℕ) → PairKeys → TagKey
-matching a b k = cond (same_bytes a k.a && same_bytes b k.b) (Key k.key) Mismatch
+matching a b k = cond (same_bytes a k.nonces.anonce && same_bytes b k.nonces.snonce) (Key k.key) Mismatch
 
 -- of the pair offered, or else of the pair in use
 abbrev pub held_key : Pair → (a b : List ℕ) → Endpoint → (offered installed : PairKeys) → TagKey

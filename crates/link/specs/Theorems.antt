@@ -123,8 +123,8 @@ Quiet y ks r = (r.held ≡ y) × (r.keys ≡ ks) × (r.says ≡ []) × (r.delive
 abbrev pub NothingWithoutKey : Type 0
 NothingWithoutKey =
     (v : Secrets) (n : ℕ) (x : List ℕ) (c : Cut) → cut x ≡ Ok c → is_tagged (message_of (row_of c)) ≡ true →
-    ((y : HandState) (ks : List GateKeys) → hand_tag_key y ks c.a c.b (message_of (row_of c)) ≡ Missing → Quiet y ks (hand_hears_bytes v n x y ks))
-    × ((y : GateState) (r : GateRing) → gate_tag_key v y r c.a c.b (message_of (row_of c)) ≡ Missing → Quiet y r (gate_hears_bytes v n x y r))
+    ((y : HandState) (ks : List GateKeys) → hand_tag_key y ks c.nonces.anonce c.nonces.snonce (message_of (row_of c)) ≡ Missing → Quiet y ks (hand_hears_bytes v n x y ks))
+    × ((y : GateState) (r : GateRing) → gate_tag_key v y r c.nonces.anonce c.nonces.snonce (message_of (row_of c)) ≡ Missing → Quiet y r (gate_hears_bytes v n x y r))
 
 -- ---- 4. A way on
 

@@ -125,8 +125,8 @@ Genuine F x key_for es = (c : Cut) (k : List ℕ) → cut x ≡ Ok c → key_for
 abbrev pub NotForged : Fleet → ByteEvent → ByteWorld → Type 0
 NotForged F (GateDoes g a) w = Unit {0}
 NotForged F (HandDoes s a) w = Unit {0}
-NotForged F (GateHears g x) w = Genuine F x (λ (c : Cut). gate_tag_key (gate_secrets F g) (gate g w.rows) (gate_ring g w) c.a c.b (message_of (row_of c))) w.said
-NotForged F (HandHears s x) w = Genuine F x (λ (c : Cut). hand_tag_key (hand s w.rows) (hand_ring s w) c.a c.b (message_of (row_of c))) w.said
+NotForged F (GateHears g x) w = Genuine F x (λ (c : Cut). gate_tag_key (gate_secrets F g) (gate g w.rows) (gate_ring g w) c.nonces.anonce c.nonces.snonce (message_of (row_of c))) w.said
+NotForged F (HandHears s x) w = Genuine F x (λ (c : Cut). hand_tag_key (hand s w.rows) (hand_ring s w) c.nonces.anonce c.nonces.snonce (message_of (row_of c))) w.said
 
 -- of a whole run
 unfoldable pub Unforged : Fleet → List ByteEvent → ByteWorld → Type 0

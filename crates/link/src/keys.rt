@@ -1,15 +1,7 @@
 //! Key material, held beside what the rules hold: plain values, so that an end keeps them in arrays. What is not held is
 //! noughts.
 
-/// Both nonces of a pair in bytes, and its pairwise key.
-#[derive(Clone, Copy)]
-pub struct PairKeys {
-    /// The gate's nonce.
-    pub a: [u8; 32],
-    /// The handheld's nonce.
-    pub b: [u8; 32],
-    pub key: [u8; 32],
-}
+use sealing::PairKeys;
 
 /// What a handheld holds for one gate.
 #[derive(Clone, Copy)]
@@ -20,6 +12,15 @@ pub struct GateKeys {
     pub group: [u8; 32],
 }
 
+impl GateKeys {
+    /// Nothing is held.
+    pub const NONE: GateKeys = GateKeys {
+        offered: PairKeys::NONE,
+        installed: PairKeys::NONE,
+        group: [0; 32],
+    };
+}
+
 /// What a gate holds for one handheld.
 #[derive(Clone, Copy)]
 pub struct HandKeys {
@@ -27,6 +28,15 @@ pub struct HandKeys {
     pub installed: PairKeys,
     /// The gate's nonce of the open handshake.
     pub anonce: [u8; 32],
+}
+
+impl HandKeys {
+    /// Nothing is held.
+    pub const NONE: HandKeys = HandKeys {
+        offered: PairKeys::NONE,
+        installed: PairKeys::NONE,
+        anonce: [0; 32],
+    };
 }
 
 /// The key of a message's tag, as far as an end has it.

@@ -3,12 +3,13 @@
 
 #![tactic(auto)]
 
+mod effect;
 mod keys;
 mod lookup;
 mod opening;
-mod outcome;
 
-pub use keys::{GateKeys, HandKeys, PairKeys, TagKey};
+pub use effect::SealedEffect;
+pub use keys::{GateKeys, HandKeys, TagKey};
 pub use lookup::held_key;
 pub use opening::open_message;
-pub use outcome::Outcome;
+pub use sealing::PairKeys;

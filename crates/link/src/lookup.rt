@@ -2,17 +2,19 @@
 ghost use Rattle.std.specs.Prelude.{◌≡◌};
 ghost use Rattle.link.specs.Keys.{matching as matching_of, held_key};
 
-use crate::keys::{PairKeys, TagKey};
+use crate::keys::TagKey;
 use endpoint::is_this;
 use frame::Pair;
+use octets::Nonces;
 use protocol::Endpoint;
-use sealing::same_bytes;
+use sealing::{PairKeys, same_bytes};
 
 /// The key held for a pair, if both nonces are those held, to the last byte.
-fn matching(a: &[u8; 32], b: &[u8; 32], keys: &PairKeys) -> TagKey
-    ensures { result ≡ matching_of a.now b.now keys.now }
+fn matching(nonces: &Nonces, keys: &PairKeys) -> TagKey
+    ensures { result ≡ matching_of nonces.now.anonce nonces.now.snonce keys.now }
 {
-    if same_bytes(a, &keys.a) && same_bytes(b, &keys.b) {
+    let held = &keys.nonces;
+    if same_bytes(&nonces.anonce, &held.anonce) && same_bytes(&nonces.snonce, &held.snonce) {
         TagKey::Key(keys.key)
     } else {
         TagKey::Mismatch
@@ -22,18 +24,17 @@ fn matching(a: &[u8; 32], b: &[u8; 32], keys: &PairKeys) -> TagKey
 /// The key of the pair, if it is offered, or else if it is in use.
 pub fn held_key(
     pair: &Pair,
-    a: &[u8; 32],
-    b: &[u8; 32],
+    nonces: &Nonces,
     end: &Endpoint,
     offered: &PairKeys,
     installed: &PairKeys,
 ) -> TagKey
-    ensures { result ≡ held_key pair.now a.now b.now end.now offered.now installed.now }
+    ensures { result ≡ held_key pair.now nonces.now.anonce nonces.now.snonce end.now offered.now installed.now }
 {
     if is_this(pair, &end.offered) {
-        matching(a, b, offered)
+        matching(nonces, offered)
     } else if is_this(pair, &end.key) {
-        matching(a, b, installed)
+        matching(nonces, installed)
     } else {
         TagKey::Missing
     }

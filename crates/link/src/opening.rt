@@ -15,35 +15,15 @@ pub fn open_message<V: Vault>(
 ) -> Message
     ensures { result ≡ with_body (opened_body (V.holds vault.now).hash key.now message sealed.now) message }
 {
-    match message {
-        Message::Load {
-            direction,
-            counter,
-            pair,
-            ..
-        } => {
-            let body = open_body(vault, key, &message, sealed);
-            Message::Load {
-                direction,
-                counter,
-                body,
-                pair,
-            }
-        }
-        Message::All {
-            gate,
-            group,
-            counter,
-            ..
-        } => {
-            let opened = open_body(vault, key, &message, sealed);
-            Message::All {
-                gate,
-                group,
-                counter,
-                body: opened,
-            }
-        }
-        _ => message,
+    let mut opened = message;
+    match &mut opened {
+        Message::Load { body, .. } => *body = open_body(vault, key, &message, sealed),
+        Message::All { body, .. } => *body = open_body(vault, key, &message, sealed),
+        Message::Begin { .. }
+        | Message::Reply { .. }
+        | Message::Take { .. }
+        | Message::Taken { .. }
+        | Message::Renew { .. } => {}
     }
+    opened
 }

@@ -1,7 +1,9 @@
 -- The laws of bytes, the lowest first.
-use Rattle.std.proofs.Common.{◌≡◌, ℕ, zero, suc, ◌+◌, ◌-◌, ◌*◌, ◌/◌, ◌%◌, ◌^◌, ◌<◌, ◌≤◌, List, [], ◌∷◌, ◌++◌, length, get_or, take, drop, set, sym, refl, ap, ◌∙◌, append_assoc, pow-suc, add-one, arith, length-drop, get_or-drop, drop-cons, take-suc-set, pow_mono}
+use Rattle.std.proofs.Common.{fold, reverse, ◌≡◌, ℕ, zero, suc, ◌+◌, ◌-◌, ◌*◌, ◌/◌, ◌%◌, ◌^◌, ◌<◌, ◌≤◌, List, [], ◌∷◌, ◌++◌, length, get_or, take, set, sym, refl, ap, ◌∙◌, append_assoc, pow-suc, add-one, arith, take-suc-set, pow_mono}
 use lib.Bits.{bit_and, bit_or}
 use Rattle.std.proofs.lemmas.Nat.{and_mask, div_below, div-add-mod', div-mul-add, mod-mul-add, or_shifted, shl_whole, pow-add}
+use Rattle.std.proofs.lemmas.List.{reverse-append}
+use Rattle.std.proofs.lemmas.List.Sums.{fold-append}
 use Rattle.octets.specs.Low.{low_first, from_low}
 
 -- ---- a loop that writes, and one that reads
@@ -24,14 +26,21 @@ below (x ∷ xs) f =
     let z : x < 256 = f 0 in
     rw wider (omega arith)
 
-pub get_more : (bs : List ℕ) (j n : ℕ) → j < length bs → length bs ≤ 8 → ((k : ℕ) → get_or bs k 0 < 256) → n ≡ from_low (drop (suc j) bs) →
-    bit_or ((n * 256) % 2 ^ 64) (get_or bs j 0) ≡ from_low (drop j bs)
-get_more bs j n h few f e =
-    let t = below (drop (suc j) bs) (λ i. rw get_or-drop (f (suc j + i))) in
-    let w : 8 * length (drop (suc j) bs) ≤ 56 = simp length-drop (omega arith) in
-    let m : 2 ^ (8 * length (drop (suc j) bs)) ≤ 2 ^ 56 = pow_mono {i = 8 * length (drop (suc j) bs)} {j = 56} w in
-    let s : n < 2 ^ 56 = omega arith in
-    rw (shl_whole n 56 8 64 s (omega arith), or_shifted n 8 (get_or bs j 0) (f j), drop-cons bs j 0 h) (omega arith)
+-- the next higher byte, as a loop that reads takes it in
+abbrev pub with_byte : ℕ → ℕ → ℕ
+with_byte n b = bit_or ((n * 256) % 2 ^ 64) b
+
+pub from_low-fold : (bs : List ℕ) → length bs ≤ 8 → ((i : ℕ) → get_or bs i 0 < 256) → fold with_byte 0 (reverse bs) ≡ from_low bs
+from_low-fold [] few f = refl
+from_low-fold (b ∷ bs) few f =
+    let t = below bs (λ i. f (suc i)) in
+    let m : 2 ^ (8 * length bs) ≤ 2 ^ 56 = pow_mono {i = 8 * length bs} {j = 56} (omega arith) in
+    let s : from_low bs < 2 ^ 56 = omega arith in
+    let e = from_low-fold bs (omega arith) (λ i. f (suc i)) in
+    ap (fold with_byte 0) (reverse-append (b ∷ []) bs)
+    ∙ fold-append with_byte 0 (reverse bs) (b ∷ [])
+    ∙ ap (λ (n : ℕ). with_byte n b) e
+    ∙ rw (shl_whole (from_low bs) 56 8 64 s (omega arith), or_shifted (from_low bs) 8 b (f 0)) (omega arith)
 
 -- ---- there and back
 

@@ -3,7 +3,7 @@ use Rattle.std.proofs.Common.{◌≡◌, ℕ, zero, suc, ◌<◌, Bool, true, fa
 use Rattle.frame.specs.declared.message.Message.{Message}
 use Rattle.frame.specs.declared.message.Message.TheVariants.{Begin, Reply, Take, Taken, Renew, Load, All}
 use Rattle.frame.specs.declared.message.Refusal.TheVariants.{NoRow}
-use Rattle.frame.specs.Row.{code, padded, place, nonce_row, nonce_at}
+use Rattle.frame.specs.Row.{code, place, nonce_row, nonce_at}
 use Rattle.frame.proofs.Small.{and_left, and_right}
 use Rattle.octets.specs.declared.parts.Cut.{Cut}
 use Rattle.octets.specs.Low.{low_first, from_low}
@@ -63,7 +63,7 @@ written_is_cut (Renew r n c p) a b x k t fit = by_layout 4 (code (Renew r n c p)
 written_is_cut (Load d c y p) a b x k t fit = by_layout 5 (code (Load d c y p)) (a ∷ b ∷ []) x k t refl fit refl
 written_is_cut (All g n c y) a b x k t fit = by_layout 6 (code (All g n c y)) (a ∷ b ∷ []) x k t refl fit refl
 
-pub opened_is : (m : Message) (y : ℕ) (row : List ℕ) → row ≡ padded 12 (code (blank m)) → opened y row ≡ padded 12 (code (with_body y m))
+pub opened_is : (m : Message) (y : ℕ) (row : List ℕ) → row ≡ code (blank m) → opened y row ≡ code (with_body y m)
 opened_is (Begin g h n) y row e = ap (opened y) e
 opened_is (Reply p) y row e = ap (opened y) e
 opened_is (Take n c p) y row e = ap (opened y) e
@@ -79,10 +79,10 @@ first_is [] k known e = let none : ⊥ = omega arith in absurd none
 first_is (y ∷ ys) k known e = omega arith
 
 abbrev again : Cut → List ℕ
-again c = octets_of_row (row_of c) c.a c.b c.body c.key c.tag
+again c = octets_of_row (row_of c) c.nonces.anonce c.nonces.snonce c.body c.key c.tag
 
 abbrev refilled : (kind : ℕ) → Cut → List (List ℕ)
-refilled kind c = fill (layout kind) (row_of c) (c.a ∷ c.b ∷ []) c.body c.key c.tag
+refilled kind c = fill (layout kind) (row_of c) (c.nonces.anonce ∷ c.nonces.snonce ∷ []) c.body c.key c.tag
 
 module _ (x : List ℕ) (bytes : (i : ℕ) → get_or x i 0 < 256) where
   by_fields : (k : ℕ) → length x ≡ total (widths (layout k)) → refilled k (cut_kind k x) ≡ renumbered (layout k) (fields_at 0 (widths (layout k)) x) →

@@ -1,8 +1,9 @@
 -- Bytes cut into the parts of their kind's layout.
-use Rattle.std.specs.Prelude.{ℕ, ◌≤◌, Bool, cond, ◌&&◌, List, [], ◌∷◌, length, drop, replicate, Ok, Err, Result, ◌==◌, nat_lt, slice_index_or, slice_set}
+use Rattle.std.specs.Prelude.{ℕ, ◌+◌, ◌≤◌, Bool, cond, ◌&&◌, List, [], ◌∷◌, length, take, drop, replicate, Ok, Err, Result, ◌==◌, nat_lt, slice_index_or, slice_set}
+use Rattle.frame.specs.declared.message.Pair.{Pair}
 use Rattle.frame.specs.declared.message.Refusal.{Refusal}
 use Rattle.frame.specs.declared.message.Refusal.TheVariants.{NoRow}
-use Rattle.frame.specs.Row.{nonce_row, padded, place}
+use Rattle.frame.specs.Row.{nonce_row, place}
 use Rattle.octets.specs.declared.parts.Cut.{Cut}
 use Rattle.octets.specs.Low.{from_low}
 use Rattle.octets.specs.Layout.{Part, Number, Nonce, Body, SealedKey, Tag, layout, widths, total, tagged, fields_at, fields_of, nonce_of}
@@ -20,10 +21,8 @@ row_in (Tag ∷ ps) fs = row_in ps (drop 1 fs)
 abbrev pub cut_with : List Part → (row : List ℕ) → List (List ℕ) → Cut
 cut_with ps row fs =
     record {
-      row = padded 12 row;
-      len = length row;
-      a = slice_index_or (fields_of Nonce ps fs) 0 (replicate 32 0);
-      b = slice_index_or (fields_of Nonce ps fs) 1 (replicate 32 0);
+      row = row;
+      nonces = record { anonce = slice_index_or (fields_of Nonce ps fs) 0 (replicate 32 0); snonce = slice_index_or (fields_of Nonce ps fs) 1 (replicate 32 0) };
       body = slice_index_or (fields_of Body ps fs) 0 (replicate 8 0);
       key = slice_index_or (fields_of SealedKey ps fs) 0 (replicate 32 0);
       tagged = total (widths (tagged ps));
@@ -46,11 +45,21 @@ cut_as kind x = cond (fits kind x) (Ok (cut_kind kind x)) (Err NoRow)
 unfoldable pub cut : List ℕ → Result Cut Refusal
 cut x = cut_as (slice_index_or x 0 7) x
 
+-- the pair that stands in the bytes from the i-th on
+abbrev pub pair_from : ℕ → List ℕ → Pair
+pair_from i x =
+    record {
+      gate = from_low (take 1 (drop i x));
+      hand = from_low (take 2 (drop (i + 1) x));
+      anonce = nonce_of (take 32 (drop (i + 3) x));
+      snonce = nonce_of (take 32 (drop (i + 35) x));
+    }
+
 -- a row with this body, in the place that its kind has for one
 abbrev pub opened : (body : ℕ) → List ℕ → List ℕ
 opened body row = cond (place row 0 == 5) (slice_set row 3 body) (cond (place row 0 == 6) (slice_set row 4 body) row)
 
--- what the tag is over lies in the bytes, and the row in its places
+-- what the tag is over lies in the bytes
 abbrev pub Within : List ℕ → Result Cut Refusal → Type 0
-Within x (Ok c) = (c.tagged ≤ length x) × (c.len ≤ 12)
+Within x (Ok c) = c.tagged ≤ length x
 Within x (Err e) = Unit {0}

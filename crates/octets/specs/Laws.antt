@@ -1,15 +1,14 @@
 -- What is written is cut, and what is cut is written.
-use Rattle.std.specs.Prelude.{◌≡◌, ℕ, ◌^◌, ◌<◌, false, ◌⊎◌, List, [], ◌∷◌, length, take, drop, replicate, Ok, Err, Result, slice_index, slice_index_or}
+use Rattle.std.specs.Prelude.{◌≡◌, ℕ, ◌^◌, ◌<◌, false, ◌⊎◌, List, [], ◌∷◌, length, drop, replicate, Ok, Err, Result, slice_index, slice_index_or}
 use Rattle.frame.specs.declared.message.Message.{Message}
 use Rattle.frame.specs.declared.message.Message.TheVariants.{Begin, Reply, Take, Taken, Renew, Load, All}
 use Rattle.frame.specs.declared.message.Refusal.{Refusal}
 use Rattle.frame.specs.declared.message.Refusal.TheVariants.{NoMessage}
-use Rattle.frame.specs.Row.{code, padded, place, nonce_at, is_message}
+use Rattle.frame.specs.Row.{code, place, nonce_at, is_message}
 use Rattle.octets.specs.declared.buffer.Octets.{Octets}
 use Rattle.octets.specs.declared.parts.Cut.{Cut}
 use Rattle.octets.specs.Layout.{Part, Number, Nonce, Body, SealedKey, Tag, layout, octets_of, octets_of_row, nonce_of}
 use Rattle.octets.specs.Cutting.{cut}
-use Rattle.octets.specs.Text.{text}
 
 -- each number fits its place, each nonce is that of its bytes, and each part is as long as its place
 abbrev pub FitsLayout : List Part → (row : List ℕ) → (nonces : List (List ℕ)) → (body key tag : List ℕ) → Type 0
@@ -43,7 +42,7 @@ noughts n = replicate n 0
 
 abbrev pub parts_with : Message → (a b body key : List ℕ) → (tagged : ℕ) → (tag : List ℕ) → Cut
 parts_with m a b body key n t =
-    record { row = padded 12 (code (blank m)); len = length (code m); a = a; b = b; body = body; key = key; tagged = n; tag = t }
+    record { row = code (blank m); nonces = record { anonce = a; snonce = b }; body = body; key = key; tagged = n; tag = t }
 
 abbrev pub parts_of : Message → (a b body key tag : List ℕ) → Cut
 parts_of (Begin g h n) a b x k t = parts_with (Begin g h n) a (noughts 32) (noughts 8) (noughts 32) 36 (noughts 16)
@@ -57,14 +56,13 @@ parts_of (All g n c y) a b x k t = parts_with (All g n c y) (noughts 32) (nought
 abbrev pub WrittenIsCut : Type 0
 WrittenIsCut = (m : Message) (a b body key tag : List ℕ) → Fits m a b body key tag → cut (octets_of m a b body key tag) ≡ Ok (parts_of m a b body key tag)
 
--- the row without the noughts behind it
 abbrev pub row_of : Cut → List ℕ
-row_of c = take c.len c.row
+row_of c = c.row
 
 abbrev pub CutIsWritten : Type 0
-CutIsWritten = (x : List ℕ) (c : Cut) → ((i : ℕ) → slice_index x i < 256) → cut x ≡ Ok c → octets_of_row (row_of c) c.a c.b c.body c.key c.tag ≡ x
+CutIsWritten = (x : List ℕ) (c : Cut) → ((i : ℕ) → slice_index x i < 256) → cut x ≡ Ok c → octets_of_row (row_of c) c.nonces.anonce c.nonces.snonce c.body c.key c.tag ≡ x
 
 -- the bytes again, or why they are refused: they are no row, or their row is no message
 abbrev pub Again : List ℕ → Result Octets Refusal → Type 0
-Again x (Ok o) = text o ≡ x
+Again x (Ok o) = o ≡ x
 Again x (Err e) = (cut x ≡ Err e) ⊎ ((c : Cut) × (cut x ≡ Ok c) × (is_message (row_of c) ≡ false) × (e ≡ NoMessage))

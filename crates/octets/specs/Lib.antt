@@ -1,5 +1,5 @@
 pub mod Low
 pub mod Layout
 pub mod Cutting
-pub mod Text
+pub mod Buffer
 pub mod Laws

@@ -1,12 +1,12 @@
 //! Bytes to the parts of a message.
-ghost use Rattle.std.specs.Prelude.{◌≡◌, ◌+◌, ◌≤◌, length, take, drop};
-ghost use Rattle.octets.specs.Low.{from_low};
+ghost use Rattle.std.specs.Prelude.{◌≡◌};
 ghost use Rattle.octets.specs.Layout.{nonce_of};
 ghost use Rattle.octets.specs.Cutting.{cut, cut_as, opened, Within};
 
-use crate::numbers::get;
-use crate::parts::Cut;
-use frame::{Nonce, Refusal};
+use crate::numbers::number_at;
+use crate::parts::{Cut, Nonces};
+use crate::reader::Reader;
+use frame::{Nonce, Refusal, Row};
 
 impl Cut {
     /// The parts of a message. What is of no kind, or not as long as its kind, is no row.
@@ -14,85 +14,27 @@ impl Cut {
         ensures parts { result ≡ cut bytes.now }
         ensures within { Within bytes.now result }
     {
-        if bytes.len() == 0 {
-            return Err(Refusal::NoRow);
-        }
-        match bytes[0] {
-            0 => begin(bytes),
-            1 => reply(bytes),
-            2 => take(bytes),
-            3 => taken(bytes),
-            4 => renew(bytes),
-            5 => load(bytes),
-            6 => all(bytes),
+        match *bytes {
+            [0, ..] => begin(bytes),
+            [1, ..] | [3, ..] => answer(bytes),
+            [2, ..] => take(bytes),
+            [4, ..] => renew(bytes),
+            [5, ..] => load(bytes),
+            [6, ..] => all(bytes),
             _ => Err(Refusal::NoRow),
         }
     }
 
     /// The row with its body opened.
-    pub fn open(&self, body: u64) -> [u64; 12]
+    pub fn open(&self, body: u64) -> Row
         ensures { result ≡ opened body self.now.row }
     {
-        let mut row = self.row;
-        match row[0] {
-            5 => row[3] = body,
-            6 => row[4] = body,
-            _ => {}
+        match *self.row.as_slice() {
+            [5, ..] => self.row.with(3, body),
+            [6, ..] => self.row.with(4, body),
+            _ => self.row,
         }
-        row
     }
-}
-
-/// The number in one byte.
-fn u8_at(bytes: &[u8], at: usize) -> u64
-    requires { at + 1 ≤ length bytes.now }
-    ensures { result ≡ from_low (take 1 (drop at bytes.now)) }
-{
-    get(&bytes[at..at + 1])
-}
-
-/// The number in two bytes.
-fn u16_at(bytes: &[u8], at: usize) -> u64
-    requires { at + 2 ≤ length bytes.now }
-    ensures { result ≡ from_low (take 2 (drop at bytes.now)) }
-{
-    get(&bytes[at..at + 2])
-}
-
-/// The number in eight bytes.
-fn u64_at(bytes: &[u8], at: usize) -> u64
-    requires { at + 8 ≤ length bytes.now }
-    ensures { result ≡ from_low (take 8 (drop at bytes.now)) }
-{
-    get(&bytes[at..at + 8])
-}
-
-/// A nonce or a sealed group key.
-fn bytes32_at(bytes: &[u8], at: usize) -> [u8; 32]
-    requires { at + 32 ≤ length bytes.now }
-    ensures { result ≡ take 32 (drop at bytes.now) }
-{
-    let mut out = [0; 32];
-    out.copy_from_slice(&bytes[at..at + 32]);
-    out
-}
-
-fn tag_at(bytes: &[u8], at: usize) -> [u8; 16]
-    requires { at + 16 ≤ length bytes.now }
-    ensures { result ≡ take 16 (drop at bytes.now) }
-{
-    let mut out = [0; 16];
-    out.copy_from_slice(&bytes[at..at + 16]);
-    out
-}
-
-fn body_at(bytes: &[u8], at: usize) -> [u8; 8]
-    requires { at + 8 ≤ length bytes.now }
-    ensures { result ≡ take 8 (drop at bytes.now) }
-{
-    let mut out = [0; 8];
-    out.copy_from_slice(&bytes[at..at + 8]);
-    out
 }
 
 /// The three numbers of a nonce.
@@ -100,9 +42,9 @@ pub fn nonce_of(bytes: &[u8; 32]) -> Nonce
     ensures { result ≡ nonce_of bytes.now }
 {
     Nonce {
-        kind: u8_at(bytes, 0),
-        node: u16_at(bytes, 1),
-        index: u64_at(bytes, 3),
+        kind: number_at::<1>(bytes, 0),
+        node: number_at::<2>(bytes, 1),
+        index: number_at::<8>(bytes, 3),
     }
 }
 
@@ -110,29 +52,17 @@ fn begin(bytes: &[u8]) -> Result<Cut, Refusal>
     ensures parts { result ≡ cut_as 0 bytes.now }
     ensures within { Within bytes.now result }
 {
-    if bytes.len() != 36 {
-        return Err(Refusal::NoRow);
-    }
-    let a = bytes32_at(bytes, 4);
-    let m = nonce_of(&a);
+    let mut reader = Reader::of(bytes, 36)?;
+    let kind = reader.number::<1>();
+    let gate = reader.number::<1>();
+    let hand = reader.number::<2>();
+    let anonce = reader.bytes();
     Ok(Cut {
-        row: [
-            u8_at(bytes, 0),
-            u8_at(bytes, 1),
-            u16_at(bytes, 2),
-            m.kind,
-            m.node,
-            m.index,
-            0,
-            0,
-            0,
-            0,
-            0,
-            0,
-        ],
-        len: 6,
-        a,
-        b: [0; 32],
+        row: Row::of([kind, gate, hand]).then(nonce_of(&anonce).numbers()),
+        nonces: Nonces {
+            anonce,
+            ..Nonces::NONE
+        },
         body: [0; 8],
         key: [0; 32],
         tagged: 36,
@@ -140,209 +70,72 @@ fn begin(bytes: &[u8]) -> Result<Cut, Refusal>
     })
 }
 
-fn reply(bytes: &[u8]) -> Result<Cut, Refusal>
-    ensures parts { result ≡ cut_as 1 bytes.now }
+/// A reply or a taken.
+fn answer(bytes: &[u8]) -> Result<Cut, Refusal>
+    ensures reply { result ≡ cut_as 1 bytes.now }
+    ensures taken { result ≡ cut_as 3 bytes.now }
     ensures within { Within bytes.now result }
 {
-    if bytes.len() != 84 {
-        return Err(Refusal::NoRow);
-    }
-    let a = bytes32_at(bytes, 4);
-    let b = bytes32_at(bytes, 36);
-    let (m, n) = (nonce_of(&a), nonce_of(&b));
-    Ok(Cut {
-        row: [
-            u8_at(bytes, 0),
-            u8_at(bytes, 1),
-            u16_at(bytes, 2),
-            m.kind,
-            m.node,
-            m.index,
-            n.kind,
-            n.node,
-            n.index,
-            0,
-            0,
-            0,
-        ],
-        len: 9,
-        a,
-        b,
-        body: [0; 8],
-        key: [0; 32],
-        tagged: 68,
-        tag: tag_at(bytes, 68),
-    })
+    let mut reader = Reader::of(bytes, 84)?;
+    let kind = reader.number::<1>();
+    let (pair, nonces) = reader.pair();
+    let row = Row::of([kind]).then(pair.numbers());
+    Ok(reader.tagged(row, nonces, [0; 8], [0; 32]))
 }
 
 fn take(bytes: &[u8]) -> Result<Cut, Refusal>
     ensures parts { result ≡ cut_as 2 bytes.now }
     ensures within { Within bytes.now result }
 {
-    if bytes.len() != 132 {
-        return Err(Refusal::NoRow);
-    }
-    let a = bytes32_at(bytes, 20);
-    let b = bytes32_at(bytes, 52);
-    let (m, n) = (nonce_of(&a), nonce_of(&b));
-    Ok(Cut {
-        row: [
-            u8_at(bytes, 0),
-            u64_at(bytes, 1),
-            u64_at(bytes, 9),
-            u8_at(bytes, 17),
-            u16_at(bytes, 18),
-            m.kind,
-            m.node,
-            m.index,
-            n.kind,
-            n.node,
-            n.index,
-            0,
-        ],
-        len: 11,
-        a,
-        b,
-        body: [0; 8],
-        key: bytes32_at(bytes, 84),
-        tagged: 116,
-        tag: tag_at(bytes, 116),
-    })
-}
-
-fn taken(bytes: &[u8]) -> Result<Cut, Refusal>
-    ensures parts { result ≡ cut_as 3 bytes.now }
-    ensures within { Within bytes.now result }
-{
-    if bytes.len() != 84 {
-        return Err(Refusal::NoRow);
-    }
-    let a = bytes32_at(bytes, 4);
-    let b = bytes32_at(bytes, 36);
-    let (m, n) = (nonce_of(&a), nonce_of(&b));
-    Ok(Cut {
-        row: [
-            u8_at(bytes, 0),
-            u8_at(bytes, 1),
-            u16_at(bytes, 2),
-            m.kind,
-            m.node,
-            m.index,
-            n.kind,
-            n.node,
-            n.index,
-            0,
-            0,
-            0,
-        ],
-        len: 9,
-        a,
-        b,
-        body: [0; 8],
-        key: [0; 32],
-        tagged: 68,
-        tag: tag_at(bytes, 68),
-    })
+    let mut reader = Reader::of(bytes, 132)?;
+    let kind = reader.number::<1>();
+    let group = reader.number::<8>();
+    let counter = reader.number::<8>();
+    let (pair, nonces) = reader.pair();
+    let key = reader.bytes();
+    let row = Row::of([kind, group, counter]).then(pair.numbers());
+    Ok(reader.tagged(row, nonces, [0; 8], key))
 }
 
 fn renew(bytes: &[u8]) -> Result<Cut, Refusal>
     ensures parts { result ≡ cut_as 4 bytes.now }
     ensures within { Within bytes.now result }
 {
-    if bytes.len() != 140 {
-        return Err(Refusal::NoRow);
-    }
-    let a = bytes32_at(bytes, 28);
-    let b = bytes32_at(bytes, 60);
-    let (m, n) = (nonce_of(&a), nonce_of(&b));
-    Ok(Cut {
-        row: [
-            u8_at(bytes, 0),
-            u64_at(bytes, 1),
-            u64_at(bytes, 9),
-            u64_at(bytes, 17),
-            u8_at(bytes, 25),
-            u16_at(bytes, 26),
-            m.kind,
-            m.node,
-            m.index,
-            n.kind,
-            n.node,
-            n.index,
-        ],
-        len: 12,
-        a,
-        b,
-        body: [0; 8],
-        key: bytes32_at(bytes, 92),
-        tagged: 124,
-        tag: tag_at(bytes, 124),
-    })
+    let mut reader = Reader::of(bytes, 140)?;
+    let kind = reader.number::<1>();
+    let round = reader.number::<8>();
+    let group = reader.number::<8>();
+    let counter = reader.number::<8>();
+    let (pair, nonces) = reader.pair();
+    let key = reader.bytes();
+    let row = Row::of([kind, round, group, counter]).then(pair.numbers());
+    Ok(reader.tagged(row, nonces, [0; 8], key))
 }
 
 fn load(bytes: &[u8]) -> Result<Cut, Refusal>
     ensures parts { result ≡ cut_as 5 bytes.now }
     ensures within { Within bytes.now result }
 {
-    if bytes.len() != 101 {
-        return Err(Refusal::NoRow);
-    }
-    let a = bytes32_at(bytes, 21);
-    let b = bytes32_at(bytes, 53);
-    let (m, n) = (nonce_of(&a), nonce_of(&b));
-    Ok(Cut {
-        row: [
-            u8_at(bytes, 0),
-            u8_at(bytes, 1),
-            u64_at(bytes, 2),
-            0,
-            u8_at(bytes, 18),
-            u16_at(bytes, 19),
-            m.kind,
-            m.node,
-            m.index,
-            n.kind,
-            n.node,
-            n.index,
-        ],
-        len: 12,
-        a,
-        b,
-        body: body_at(bytes, 10),
-        key: [0; 32],
-        tagged: 85,
-        tag: tag_at(bytes, 85),
-    })
+    let mut reader = Reader::of(bytes, 101)?;
+    let kind = reader.number::<1>();
+    let direction = reader.number::<1>();
+    let counter = reader.number::<8>();
+    let body = reader.bytes();
+    let (pair, nonces) = reader.pair();
+    let row = Row::of([kind, direction, counter, 0]).then(pair.numbers());
+    Ok(reader.tagged(row, nonces, body, [0; 32]))
 }
 
 fn all(bytes: &[u8]) -> Result<Cut, Refusal>
     ensures parts { result ≡ cut_as 6 bytes.now }
     ensures within { Within bytes.now result }
 {
-    if bytes.len() != 42 {
-        return Err(Refusal::NoRow);
-    }
-    Ok(Cut {
-        row: [
-            u8_at(bytes, 0),
-            u8_at(bytes, 1),
-            u64_at(bytes, 2),
-            u64_at(bytes, 10),
-            0,
-            0,
-            0,
-            0,
-            0,
-            0,
-            0,
-            0,
-        ],
-        len: 5,
-        a: [0; 32],
-        b: [0; 32],
-        body: body_at(bytes, 18),
-        key: [0; 32],
-        tagged: 26,
-        tag: tag_at(bytes, 26),
-    })
+    let mut reader = Reader::of(bytes, 42)?;
+    let kind = reader.number::<1>();
+    let gate = reader.number::<1>();
+    let group = reader.number::<8>();
+    let counter = reader.number::<8>();
+    let body = reader.bytes();
+    let row = Row::of([kind, gate, group, counter, 0]);
+    Ok(reader.tagged(row, Nonces::NONE, body, [0; 32]))
 }

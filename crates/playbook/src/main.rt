@@ -7,15 +7,10 @@ use script::line::number;
 use simulator::{Answer, Simulator};
 use std::io::{BufRead, BufReader};
 use std::process::ExitCode;
+use usage::status;
 
 fn main(rt: HostRuntime) -> ExitCode {
-    match run(&rt) {
-        Ok(()) => ExitCode::SUCCESS,
-        Err(e) => {
-            let _ = eprintln!(rt; "playbook: {e}");
-            ExitCode::FAILURE
-        }
-    }
+    status(&rt, "playbook", run(&rt))
 }
 
 fn run(rt: &HostRuntime) -> anyhow::Result<()> {
@@ -23,33 +18,25 @@ fn run(rt: &HostRuntime) -> anyhow::Result<()> {
     let mut count = 0u64;
     for line in BufReader::new(rt.alloc(), rt.stdin())?.lines(rt.alloc()) {
         let line = line?;
-        match read_heading(line.as_str()) {
-            Some(Heading { name, gates, hands }) => {
-                println!(rt; "== {name}")?;
-                simulator = begin(rt, gates, hands)?;
-                count = 0;
-            }
-            None => {
-                count = count.saturating_add(1);
-                let answer = simulator.play_line(count, line.as_str().as_bytes());
-                match answer {
-                    Answer::Nothing | Answer::Played(_) | Answer::Full => {
-                        print!(rt; "{answer}")?
-                    }
-                    Answer::Complaint(_) | Answer::Absent { .. } => eprint!(rt; "{answer}")?,
-                    Answer::NoMemory => return Err(anyhow!("out of memory")),
-                }
-            }
+        if let Some(Heading { name, gates, hands }) = read_heading(line.as_str()) {
+            println!(rt; "== {name}")?;
+            simulator = begin(rt, gates, hands)?;
+            count = 0;
+            continue;
+        }
+        count = count.saturating_add(1);
+        let answer = simulator.play_line(count, line.as_str().as_bytes());
+        match answer {
+            Answer::Nothing | Answer::Played(_) | Answer::Full => print!(rt; "{answer}")?,
+            Answer::Complaint(_) | Answer::Absent { .. } => eprint!(rt; "{answer}")?,
+            Answer::NoMemory => return Err(anyhow!("out of memory")),
         }
     }
     Ok(())
 }
 
 fn begin(rt: &HostRuntime, gates: u64, hands: u64) -> anyhow::Result<Simulator> {
-    match Simulator::new(rt.alloc(), gates, hands)? {
-        Some(simulator) => Ok(simulator),
-        None => Err(anyhow!("too many gates or handhelds")),
-    }
+    Simulator::new(rt.alloc(), gates, hands)?.ok_or_else(|| anyhow!("too many gates or handhelds"))
 }
 
 /// How a script begins.

@@ -2,6 +2,9 @@
 
 use frame::{Nonce, Pair};
 
+/// Nobody draws more nonces, sends more frames under a key, or has more group keys or rounds.
+pub const COUNTER_LIMIT: u64 = 1 << 48;
+
 /// One end of a pairwise key.
 #[derive(Clone, Copy)]
 pub struct Endpoint {
@@ -17,6 +20,17 @@ pub struct Endpoint {
     pub round: u64,
 }
 
+impl Endpoint {
+    /// Nothing is offered or in use.
+    pub const NEW: Endpoint = Endpoint {
+        offered: None,
+        key: None,
+        send: 0,
+        floor: 0,
+        round: 0,
+    };
+}
+
 /// What a handheld holds for one gate.
 #[derive(Clone, Copy)]
 pub struct GatePeer {
@@ -25,6 +39,15 @@ pub struct GatePeer {
     pub group: u64,
     /// The replay floor under that group key.
     pub floor: u64,
+}
+
+impl GatePeer {
+    /// Nothing is held for the gate yet.
+    pub const NEW: GatePeer = GatePeer {
+        end: Endpoint::NEW,
+        group: 0,
+        floor: 0,
+    };
 }
 
 /// A handshake that a gate has opened, by the nonce of its begin.
@@ -38,4 +61,12 @@ pub struct Handshake {
 pub struct HandPeer {
     pub end: Endpoint,
     pub handshake: Option<Handshake>,
+}
+
+impl HandPeer {
+    /// Nothing is held for the handheld yet.
+    pub const NEW: HandPeer = HandPeer {
+        end: Endpoint::NEW,
+        handshake: None,
+    };
 }

@@ -28,7 +28,7 @@ use Rattle.promise.proofs.Ends.{end_hears_lem}
 use Rattle.promise.proofs.Gates.{InLimits}
 use Rattle.sealing.specs.Secrets.{Secrets, pairwise_key, group_key, has_entropy, entropy_at}
 use Rattle.sealing.specs.Seal.{Sealed, same_bytes, sealed_body, sealed_key, tag_of, tagged_bytes}
-use Rattle.link.specs.declared.keys.PairKeys.{PairKeys}
+use Rattle.sealing.specs.declared.keys.PairKeys.{PairKeys}
 use Rattle.link.specs.declared.keys.HandKeys.{HandKeys}
 use Rattle.link.specs.declared.keys.TagKey.{TagKey}
 use Rattle.link.specs.declared.keys.TagKey.TheVariants.{Missing, Mismatch, Key}
@@ -89,21 +89,21 @@ module _ (F : Fleet) (g : ℕ) (y : GateState) (r : GateRing) (gb : GateB F g y 
 abbrev GoodAt : Fleet → (h : ℕ) → (q : List ℕ) → HandKeys → Message → Type 0
 GoodAt F h q k (Begin i j z) = (j ≡ h) × GoodAs F (Begin i j z) k.anonce [] [] []
 GoodAt F h q k (Reply p) = ⊥
-GoodAt F h q k (Take n c p) = (p.hand ≡ h) × GoodAs F (Take n c p) k.offered.a k.offered.b k.offered.key q
+GoodAt F h q k (Take n c p) = (p.hand ≡ h) × GoodAs F (Take n c p) k.offered.nonces.anonce k.offered.nonces.snonce k.offered.key q
 GoodAt F h q k (Taken p) = ⊥
-GoodAt F h q k (Renew d n c p) = (p.hand ≡ h) × GoodAs F (Renew d n c p) k.installed.a k.installed.b k.installed.key q
-GoodAt F h q k (Load d c z p) = (p.hand ≡ h) × GoodAs F (Load d c z p) k.installed.a k.installed.b k.installed.key q
+GoodAt F h q k (Renew d n c p) = (p.hand ≡ h) × GoodAs F (Renew d n c p) k.installed.nonces.anonce k.installed.nonces.snonce k.installed.key q
+GoodAt F h q k (Load d c z p) = (p.hand ≡ h) × GoodAs F (Load d c z p) k.installed.nonces.anonce k.installed.nonces.snonce k.installed.key q
 GoodAt F h q k (All i n c z) = ⊥
 
 seals_good : (F : Fleet) (h : ℕ) (k : HandKeys) (r : GateRing) → hand_keys h r ≡ k → (m : Message) → GoodAt F h r.group k m → Good F (gate_seals r m)
 seals_good F h k r e (Begin i j z) f = subst (λ (u : HandKeys). GoodAs F (Begin i j z) u.anonce [] [] []) (sym (ap (λ j. hand_keys j r) f.0 ∙ e)) f.1
 seals_good F h k r e (Reply p) f = absurd f
-seals_good F h k r e (Take n c p) f = subst (λ (u : HandKeys). GoodAs F (Take n c p) u.offered.a u.offered.b u.offered.key r.group) (sym (ap (λ j. hand_keys j r) f.0 ∙ e)) f.1
+seals_good F h k r e (Take n c p) f = subst (λ (u : HandKeys). GoodAs F (Take n c p) u.offered.nonces.anonce u.offered.nonces.snonce u.offered.key r.group) (sym (ap (λ j. hand_keys j r) f.0 ∙ e)) f.1
 seals_good F h k r e (Taken p) f = absurd f
 seals_good F h k r e (Renew d n c p) f =
-    subst (λ (u : HandKeys). GoodAs F (Renew d n c p) u.installed.a u.installed.b u.installed.key r.group) (sym (ap (λ j. hand_keys j r) f.0 ∙ e)) f.1
+    subst (λ (u : HandKeys). GoodAs F (Renew d n c p) u.installed.nonces.anonce u.installed.nonces.snonce u.installed.key r.group) (sym (ap (λ j. hand_keys j r) f.0 ∙ e)) f.1
 seals_good F h k r e (Load d c z p) f =
-    subst (λ (u : HandKeys). GoodAs F (Load d c z p) u.installed.a u.installed.b u.installed.key r.group) (sym (ap (λ j. hand_keys j r) f.0 ∙ e)) f.1
+    subst (λ (u : HandKeys). GoodAs F (Load d c z p) u.installed.nonces.anonce u.installed.nonces.snonce u.installed.key r.group) (sym (ap (λ j. hand_keys j r) f.0 ∙ e)) f.1
 seals_good F h k r e (All i n c z) f = absurd f
 
 abbrev PeerKeeps : Fleet → (g h : ℕ) → (q : List ℕ) → Out HandPeer → HandKeys → Type 0
@@ -237,14 +237,14 @@ module _ (F : Fleet) (g : ℕ) (y : GateState) (r : GateRing) (gb : GateB F g y 
   near h t = let l = ltb→lt h n t in omega arith
 
   gate_hears_keeps : (m : Message) (a b k q : List ℕ) → T (is_for_gate g n m) → GoodAs F m a b k q →
-      GateKeeps F g (gate_hears m y) (gate_keys_after (record { a = a; b = b; key = k }) m y r)
+      GateKeeps F g (gate_hears m y) (gate_keys_after (record { nonces = record { anonce = a; snonce = b }; key = k }) m y r)
   gate_hears_keeps (Begin i h z) a b k q t f = elim t [ ]
   gate_hears_keeps (Reply p) a b k q t f =
       let u = and_r (eqb p.gate g) (ltb p.hand n) t in
       let same = eqb→eq p.gate g (and_l (eqb p.gate g) (ltb p.hand n) t) in
       lift F g y r gb y.draws p.hand (gate_reply y.group y.counter p) _ u
       (reply_keeps F g p.hand r.group (hand_peer p.hand y) (hand_keys p.hand r) (gb.peers p.hand) lg (near p.hand u) y.group y.counter
-      (record { a = a; b = b; key = k }) p limits.1 limits.0 gb.group (same, refl, f.2, f.3))
+      (record { nonces = record { anonce = a; snonce = b }; key = k }) p limits.1 limits.0 gb.group (same, refl, f.2, f.3))
   gate_hears_keeps (Take i c p) a b k q t f = elim t [ ]
   gate_hears_keeps (Taken p) a b k q t f =
       let u = and_r (eqb p.gate g) (ltb p.hand n) t in
@@ -268,13 +268,13 @@ module _ (F : Fleet) (g : ℕ) (y : GateState) (r : GateRing) (gb : GateB F g y 
   keys_kept e o (All i h c z) fine bad = refl
 
   gate_row_keeps : (m : Message) (a b k q : List ℕ) → T (is_for_gate g n m) → gate_verdict g n (code (blank m)) true y ≡ None → GoodAs F m a b k q →
-      GateKeeps F g (gate_hears_row g n (code m) true y) (gate_keys_after (record { a = a; b = b; key = k }) m y r)
+      GateKeeps F g (gate_hears_row g n (code m) true y) (gate_keys_after (record { nonces = record { anonce = a; snonce = b }; key = k }) m y r)
   unfolding gate_hears_row
   gate_row_keeps m a b k q t fine f = go (gate_verdict g n (code m) true y) refl
     where
-      go : (o : Option Refusal) → gate_verdict g n (code m) true y ≡ o → GateKeeps F g (unless o y (gate_hears (message_of (code m)) y)) (gate_keys_after (record { a = a; b = b; key = k }) m y r)
-      go None h = subst (λ z. GateKeeps F g (gate_hears z y) (gate_keys_after (record { a = a; b = b; key = k }) m y r)) (sym (message_of-code m)) (gate_hears_keeps m a b k q t f)
-      go (Some e) h = subst (GateKeeps F g (quiet y)) (sym (keys_kept e (record { a = a; b = b; key = k }) m fine h)) (gb, tt)
+      go : (o : Option Refusal) → gate_verdict g n (code m) true y ≡ o → GateKeeps F g (unless o y (gate_hears (message_of (code m)) y)) (gate_keys_after (record { nonces = record { anonce = a; snonce = b }; key = k }) m y r)
+      go None h = subst (λ z. GateKeeps F g (gate_hears z y) (gate_keys_after (record { nonces = record { anonce = a; snonce = b }; key = k }) m y r)) (sym (message_of-code m)) (gate_hears_keeps m a b k q t f)
+      go (Some e) h = subst (GateKeeps F g (quiet y)) (sym (keys_kept e (record { nonces = record { anonce = a; snonce = b }; key = k }) m fine h)) (gb, tt)
 
   abbrev pub GateHeard : List Entry → Reception GateState GateRing → Type 0
   GateHeard es z =
@@ -282,7 +282,7 @@ module _ (F : Fleet) (g : ℕ) (y : GateState) (r : GateRing) (gb : GateB F g y 
       ((m : Message) × (ring : GateRing) × T (may_be_heard m es) × (hearer 0 m ≡ Gate g) × (z ≡ gate_by_row g (rightly m) y ring) × GateKeeps F g (gate_hears_row g n (code m) true y) ring)
 
   keys_as : (m : Message) (a b k q t : List ℕ) → let c = parts_of m a b (sealed_body F.hash k m) (sealed_key F.hash k q m) t in
-      gate_keys_after (record { a = c.a; b = c.b; key = k }) (message_of (row_of c)) y r ≡ gate_keys_after (record { a = a; b = b; key = k }) m y r
+      gate_keys_after (record { nonces = c.nonces; key = k }) (message_of (row_of c)) y r ≡ gate_keys_after (record { nonces = record { anonce = a; snonce = b }; key = k }) m y r
   keys_as (Begin i h z) a b k q t = refl
   keys_as (Reply p) a b k q t = refl
   keys_as (Take i c p) a b k q t = refl
@@ -293,10 +293,10 @@ module _ (F : Fleet) (g : ℕ) (y : GateState) (r : GateRing) (gb : GateB F g y 
 
   pub gate_accepts : (x : List ℕ) (z : Sealed) → Good F z → T (tag_right F.hash z.key x (sealed_parts F z)) →
       gate_tagged v g x (sealed_parts F z) (Key z.key) y r
-      ≡ gate_by_row g (rightly z.message) y (gate_keys_after (record { a = z.a; b = z.b; key = z.key }) z.message y r)
+      ≡ gate_by_row g (rightly z.message) y (gate_keys_after (record { nonces = record { anonce = z.a; snonce = z.b }; key = z.key }) z.message y r)
   gate_accepts x z f t =
       (λ i. gate_by_row g (cond_true (tag_right F.hash z.key x (sealed_parts F z)) (record { row = code (opened_with F.hash z.key (sealed_parts F z)); genuine = true }) (unopened false (sealed_parts F z)) t i) y
-      (cond_true (tag_right F.hash z.key x (sealed_parts F z)) (gate_keys_after (record { a = (sealed_parts F z).a; b = (sealed_parts F z).b; key = z.key }) (message_of (row_of (sealed_parts F z))) y r) r t i))
+      (cond_true (tag_right F.hash z.key x (sealed_parts F z)) (gate_keys_after (record { nonces = (sealed_parts F z).nonces; key = z.key }) (message_of (row_of (sealed_parts F z))) y r) r t i))
       ∙ (λ i. gate_by_row g (rightly (opened_is F z f i)) y (keys_as z.message z.a z.b z.key z.group (tag_of F.hash z.key (tagged_bytes F.hash z)) i))
 
   wrong_tag : (c : Cut) → is_tagged (message_of (row_of c)) ≡ true → Quiet y r (gate_by_row g (unopened false c) y r)
@@ -305,7 +305,7 @@ module _ (F : Fleet) (g : ℕ) (y : GateState) (r : GateRing) (gb : GateB F g y 
       (unless_wrong (is_message (row_of c)) (is_for_gate g (min n n) (message_of (row_of c))) (is_tagged (message_of (row_of c))) y _ e)
 
   module _ (x : List ℕ) (es : List SealedEntry) (ok : AllGood F es)
-      (genuine : Genuine F x (λ (c : Cut). gate_tag_key v y r c.a c.b (message_of (row_of c))) es) where
+      (genuine : Genuine F x (λ (c : Cut). gate_tag_key v y r c.nonces.anonce c.nonces.snonce (message_of (row_of c))) es) where
     ours : (c : Cut) → gate_verdict g n (row_of c) true y ≡ None → T (is_for_gate g n (message_of (row_of c)))
     unfolding gate_verdict
     ours c e =
@@ -313,12 +313,12 @@ module _ (F : Fleet) (g : ℕ) (y : GateState) (r : GateRing) (gb : GateB F g y 
         from_true _ (ap (λ k. is_for_gate g k (message_of (row_of c))) (sym same) ∙ verdict_ours (is_message (row_of c)) (is_for_gate g (min n n) (message_of (row_of c))) true e)
 
     heard_key : (c : Cut) (k : List ℕ) → cut x ≡ Ok c → gate_verdict g n (row_of c) true y ≡ None → is_tagged (message_of (row_of c)) ≡ true →
-        gate_tag_key v y r c.a c.b (message_of (row_of c)) ≡ Key k → (b : Bool) → tag_right F.hash k x c ≡ b → GateHeard (entries_of es) (gate_tagged v g x c (Key k) y r)
+        gate_tag_key v y r c.nonces.anonce c.nonces.snonce (message_of (row_of c)) ≡ Key k → (b : Bool) → tag_right F.hash k x c ≡ b → GateHeard (entries_of es) (gate_tagged v g x c (Key k) y r)
     heard_key c k ec fine tagged ek false wrong =
         subst (λ b. GateHeard (entries_of es) (gate_by_row g (cond b (record { row = code (opened_with F.hash k c); genuine = true }) (unopened false c)) y
-        (cond b (gate_keys_after (record { a = c.a; b = c.b; key = k }) (message_of (row_of c)) y r) r))) (sym wrong) (inl (wrong_tag c tagged))
+        (cond b (gate_keys_after (record { nonces = c.nonces; key = k }) (message_of (row_of c)) y r) r))) (sym wrong) (inl (wrong_tag c tagged))
     heard_key c k ec fine tagged ek true right =
-        let a = accepted F x c k es ok ec tagged (gate_key_is F g y r gb c.a c.b k n (message_of (row_of c)) (ours c fine) ek) (from_true _ (genuine c k ec ek right)) in
+        let a = accepted F x c k es ok ec tagged (gate_key_is F g y r gb c.nonces.anonce c.nonces.snonce k n (message_of (row_of c)) (ours c fine) ek) (from_true _ (genuine c k ec ek right)) in
         let z : Sealed = a.0 in
         let m : Message = z.message in
         let same : message_of (row_of c) ≡ blank m = ap (λ d. message_of (row_of d)) a.1 ∙ parts_message F m z.a z.b _ _ _ in
@@ -326,7 +326,7 @@ module _ (F : Fleet) (g : ℕ) (y : GateState) (r : GateRing) (gb : GateB F g y 
         let mine : T (is_for_gate g n m) = subst T (ap (is_for_gate g n) same ∙ for_gate_blank g n m) (ours c fine) in
         inr (
           m,
-          gate_keys_after (record { a = z.a; b = z.b; key = z.key }) m y r,
+          gate_keys_after (record { nonces = record { anonce = z.a; snonce = z.b }; key = z.key }) m y r,
           cond_case T (is_tagged m) (is_sent m (entries_of es)) true (λ _. a.4) tt,
           hears_gate 0 g n m mine,
           (λ i. gate_tagged v g x (a.1 i) (Key (a.2 i)) y r) ∙ gate_accepts x z a.3 t,
@@ -334,7 +334,7 @@ module _ (F : Fleet) (g : ℕ) (y : GateState) (r : GateRing) (gb : GateB F g y 
         )
 
     heard_tagged : (c : Cut) → cut x ≡ Ok c → gate_verdict g n (row_of c) true y ≡ None → is_tagged (message_of (row_of c)) ≡ true → (t : TagKey) →
-        gate_tag_key v y r c.a c.b (message_of (row_of c)) ≡ t → GateHeard (entries_of es) (gate_tagged v g x c t y r)
+        gate_tag_key v y r c.nonces.anonce c.nonces.snonce (message_of (row_of c)) ≡ t → GateHeard (entries_of es) (gate_tagged v g x c t y r)
     heard_tagged c ec fine tagged Missing et = inl (gate_missing v g x c y r tagged et)
     heard_tagged c ec fine tagged Mismatch et = inl (wrong_tag c tagged)
     heard_tagged c ec fine tagged (Key k) et = heard_key c k ec fine tagged et (tag_right F.hash k x c) refl
@@ -351,7 +351,7 @@ module _ (F : Fleet) (g : ℕ) (y : GateState) (r : GateRing) (gb : GateB F g y 
 
     heard_row : (c : Cut) → cut x ≡ Ok c → (o : Option Refusal) → gate_verdict g n (row_of c) true y ≡ o → GateHeard (entries_of es) (gate_row v g x c o y r)
     heard_row c ec (Some e) f = inl (refl, refl, refl, refl)
-    heard_row c ec None f = heard_tagged c ec f (tagged_ours (message_of (row_of c)) (ours c f)) (gate_tag_key v y r c.a c.b (message_of (row_of c))) refl
+    heard_row c ec None f = heard_tagged c ec f (tagged_ours (message_of (row_of c)) (ours c f)) (gate_tag_key v y r c.nonces.anonce c.nonces.snonce (message_of (row_of c))) refl
 
     heard_cut : (d : Result Cut Refusal) → cut x ≡ d → GateHeard (entries_of es) (gate_cut v g x d y r)
     heard_cut (Err e) f = inl (refl, refl, refl, refl)

@@ -27,7 +27,7 @@ use Rattle.promise.proofs.Base.{and_l, and_r, cond_case, cond_yes, from_true, no
 use Rattle.promise.proofs.Ends.{end_hears_lem}
 use Rattle.sealing.specs.Secrets.{Secrets, group_key, has_entropy, entropy_at}
 use Rattle.sealing.specs.Seal.{Sealed, sealed_body, sealed_key, tag_of, tagged_bytes}
-use Rattle.link.specs.declared.keys.PairKeys.{PairKeys}
+use Rattle.sealing.specs.declared.keys.PairKeys.{PairKeys}
 use Rattle.link.specs.declared.keys.GateKeys.{GateKeys}
 use Rattle.link.specs.declared.keys.TagKey.{TagKey}
 use Rattle.link.specs.declared.keys.TagKey.TheVariants.{Missing, Mismatch, Key}
@@ -82,21 +82,21 @@ module _ (F : Fleet) (s : ℕ) (y : HandState) (ks : List GateKeys) (hb : HandB 
 
 abbrev GoodAt : Fleet → (g : ℕ) → GateKeys → Message → Type 0
 GoodAt F g k (Begin i h n) = ⊥
-GoodAt F g k (Reply p) = (p.gate ≡ g) × GoodPair F p k.offered.a k.offered.b k.offered.key
+GoodAt F g k (Reply p) = (p.gate ≡ g) × GoodPair F p k.offered.nonces.anonce k.offered.nonces.snonce k.offered.key
 GoodAt F g k (Take n c p) = ⊥
-GoodAt F g k (Taken p) = (p.gate ≡ g) × GoodPair F p k.installed.a k.installed.b k.installed.key
+GoodAt F g k (Taken p) = (p.gate ≡ g) × GoodPair F p k.installed.nonces.anonce k.installed.nonces.snonce k.installed.key
 GoodAt F g k (Renew r n c p) = ⊥
-GoodAt F g k (Load d c z p) = (p.gate ≡ g) × (GoodPair F p k.installed.a k.installed.b k.installed.key × (c < 256 ^ 8) × (z < 256 ^ 8))
+GoodAt F g k (Load d c z p) = (p.gate ≡ g) × (GoodPair F p k.installed.nonces.anonce k.installed.nonces.snonce k.installed.key × (c < 256 ^ 8) × (z < 256 ^ 8))
 GoodAt F g k (All i n c z) = ⊥
 
 seals_good : (F : Fleet) (g : ℕ) (k : GateKeys) (ks : List GateKeys) → gate_keys g ks ≡ k → (m : Message) → GoodAt F g k m → Good F (hand_seals ks m)
 seals_good F g k ks e (Begin i h n) f = absurd f
-seals_good F g k ks e (Reply p) f = subst (λ (z : GateKeys). GoodPair F p z.offered.a z.offered.b z.offered.key) (sym (ap (λ i. gate_keys i ks) f.0 ∙ e)) f.1
+seals_good F g k ks e (Reply p) f = subst (λ (z : GateKeys). GoodPair F p z.offered.nonces.anonce z.offered.nonces.snonce z.offered.key) (sym (ap (λ i. gate_keys i ks) f.0 ∙ e)) f.1
 seals_good F g k ks e (Take n c p) f = absurd f
-seals_good F g k ks e (Taken p) f = subst (λ (z : GateKeys). GoodPair F p z.installed.a z.installed.b z.installed.key) (sym (ap (λ i. gate_keys i ks) f.0 ∙ e)) f.1
+seals_good F g k ks e (Taken p) f = subst (λ (z : GateKeys). GoodPair F p z.installed.nonces.anonce z.installed.nonces.snonce z.installed.key) (sym (ap (λ i. gate_keys i ks) f.0 ∙ e)) f.1
 seals_good F g k ks e (Renew r n c p) f = absurd f
 seals_good F g k ks e (Load d c z p) f =
-    (subst (λ (z : GateKeys). GoodPair F p z.installed.a z.installed.b z.installed.key) (sym (ap (λ i. gate_keys i ks) f.0 ∙ e)) f.1.0, f.1.1, f.1.2)
+    (subst (λ (z : GateKeys). GoodPair F p z.installed.nonces.anonce z.installed.nonces.snonce z.installed.key) (sym (ap (λ i. gate_keys i ks) f.0 ∙ e)) f.1.0, f.1.1, f.1.2)
 seals_good F g k ks e (All i n c z) f = absurd f
 
 -- it keeps the key material, and what it says is sealed as it should be
@@ -319,7 +319,7 @@ module _ (F : Fleet) (s : ℕ) (y : HandState) (ks : List GateKeys) (hb : HandB 
       (unless_wrong (is_message (row_of c)) (is_for_hand (min n n) s (message_of (row_of c))) (is_tagged (message_of (row_of c))) y _ e)
 
   module _ (x : List ℕ) (es : List SealedEntry) (ok : AllGood F es)
-      (genuine : Genuine F x (λ (c : Cut). hand_tag_key y ks c.a c.b (message_of (row_of c))) es) where
+      (genuine : Genuine F x (λ (c : Cut). hand_tag_key y ks c.nonces.anonce c.nonces.snonce (message_of (row_of c))) es) where
     abbrev v : Secrets
     v = hand_secrets F s
 
@@ -330,12 +330,12 @@ module _ (F : Fleet) (s : ℕ) (y : HandState) (ks : List GateKeys) (hb : HandB 
         from_true _ (ap (λ k. is_for_hand k s (message_of (row_of c))) (sym same) ∙ verdict_ours (is_message (row_of c)) (is_for_hand (min n n) s (message_of (row_of c))) true e)
 
     heard_key : (c : Cut) (k : List ℕ) → cut x ≡ Ok c → hand_verdict n s (row_of c) true y ≡ None → is_tagged (message_of (row_of c)) ≡ true →
-        hand_tag_key y ks c.a c.b (message_of (row_of c)) ≡ Key k → (b : Bool) → tag_right F.hash k x c ≡ b → HandHeard (entries_of es) (hand_tagged v s x c (Key k) y ks)
+        hand_tag_key y ks c.nonces.anonce c.nonces.snonce (message_of (row_of c)) ≡ Key k → (b : Bool) → tag_right F.hash k x c ≡ b → HandHeard (entries_of es) (hand_tagged v s x c (Key k) y ks)
     heard_key c k ec fine tagged ek false wrong =
         subst (λ b. HandHeard (entries_of es) (hand_by_row s (cond b (record { row = code (opened_with F.hash k c); genuine = true }) (unopened false c)) y
         (cond b (hand_keys_after (group_with F.hash k c) (message_of (row_of c)) y ks) ks))) (sym wrong) (inl (wrong_tag c tagged))
     heard_key c k ec fine tagged ek true right =
-        let a = accepted F x c k es ok ec tagged (hand_key_is F s y ks hb c.a c.b k (message_of (row_of c)) ek) (from_true _ (genuine c k ec ek right)) in
+        let a = accepted F x c k es ok ec tagged (hand_key_is F s y ks hb c.nonces.anonce c.nonces.snonce k (message_of (row_of c)) ek) (from_true _ (genuine c k ec ek right)) in
         let z : Sealed = a.0 in
         let m : Message = z.message in
         let same : message_of (row_of c) ≡ blank m = ap (λ d. message_of (row_of d)) a.1 ∙ parts_message F m z.a z.b _ _ _ in
@@ -352,19 +352,19 @@ module _ (F : Fleet) (s : ℕ) (y : HandState) (ks : List GateKeys) (hb : HandB 
         )
 
     heard_tagged : (c : Cut) → cut x ≡ Ok c → hand_verdict n s (row_of c) true y ≡ None → is_tagged (message_of (row_of c)) ≡ true → (t : TagKey) →
-        hand_tag_key y ks c.a c.b (message_of (row_of c)) ≡ t → HandHeard (entries_of es) (hand_tagged v s x c t y ks)
+        hand_tag_key y ks c.nonces.anonce c.nonces.snonce (message_of (row_of c)) ≡ t → HandHeard (entries_of es) (hand_tagged v s x c t y ks)
     heard_tagged c ec fine tagged Missing et = inl (hand_missing v s x c y ks tagged et)
     heard_tagged c ec fine tagged Mismatch et = inl (wrong_tag c tagged)
     heard_tagged c ec fine tagged (Key k) et = heard_key c k ec fine tagged et (tag_right F.hash k x c) refl
 
     by_message : (c : Cut) → cut x ≡ Ok c → hand_verdict n s (row_of c) true y ≡ None → (m : Message) → message_of (row_of c) ≡ m → is_tagged m ≡ true →
-        HandHeard (entries_of es) (hand_tagged v s x c (hand_tag_key y ks c.a c.b m) y ks)
-    by_message c ec fine m em tagged = heard_tagged c ec fine (ap is_tagged em ∙ tagged) (hand_tag_key y ks c.a c.b m) (ap (hand_tag_key y ks c.a c.b) em)
+        HandHeard (entries_of es) (hand_tagged v s x c (hand_tag_key y ks c.nonces.anonce c.nonces.snonce m) y ks)
+    by_message c ec fine m em tagged = heard_tagged c ec fine (ap is_tagged em ∙ tagged) (hand_tag_key y ks c.nonces.anonce c.nonces.snonce m) (ap (hand_tag_key y ks c.nonces.anonce c.nonces.snonce) em)
 
     heard_begin : (c : Cut) (g h : ℕ) (z : Nonce) → cut x ≡ Ok c → hand_verdict n s (row_of c) true y ≡ None → message_of (row_of c) ≡ Begin g h z →
         HandHeard (entries_of es) (hand_message v s x c (Begin g h z) y ks)
     heard_begin c g h z ec fine em =
-        let keys : List GateKeys = set ks g (with_offered_keys (begun_keys v s g c.a y) (gate_keys g ks)) in
+        let keys : List GateKeys = set ks g (with_offered_keys (begun_keys v s g c.nonces.anonce y) (gate_keys g ks)) in
         let row : row_of c ≡ code (Begin g h z) = sym (hand_row_is n s (row_of c) y fine) ∙ ap code em in
         let mine : T (is_for_hand n s (Begin g h z)) = subst (λ m. T (is_for_hand n s m)) em (ours c fine) in
         cond_case (HandHeard (entries_of es)) (can_draw v y.draws) (hand_by_row s (unopened true c) y keys) (nothing y ks)
@@ -375,7 +375,7 @@ module _ (F : Fleet) (s : ℕ) (y : HandState) (ks : List GateKeys) (hb : HandB 
           hears_hand n s (Begin g h z) mine,
           (λ i. hand_by_row s (record { row = row i; genuine = true }) y keys),
           subst (λ o. HandKeeps F s o keys) (sym (hand_row_heard n s (Begin g h z) y (ap (λ l. hand_verdict n s l true y) (sym row) ∙ fine)))
-              (hand_begins_lem g h z c.a (begin_cut x c ec g h z em) t (and_l (ltb g n) (eqb h s) mine)),
+              (hand_begins_lem g h z c.nonces.anonce (begin_cut x c ec g h z em) t (and_l (ltb g n) (eqb h s) mine)),
         ))
         (inl (refl, refl, refl, refl))
 

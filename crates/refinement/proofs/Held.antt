@@ -22,7 +22,7 @@ use Rattle.protocol.specs.Promise.{Each}
 use Rattle.promise.proofs.Base.{and_l, and_r, or_e, In, in_here, in_more, Any, any_this, this→}
 use Rattle.sealing.specs.Secrets.{Secrets, group_key, nonce_bytes, entropy_at, has_entropy}
 use Rattle.sealing.specs.Seal.{Sealed, same_bytes}
-use Rattle.link.specs.declared.keys.PairKeys.{PairKeys}
+use Rattle.sealing.specs.declared.keys.PairKeys.{PairKeys}
 use Rattle.link.specs.declared.keys.TagKey.TheVariants.{Missing, Mismatch, Key}
 use Rattle.link.specs.Keys.{matching, held_key}
 use Rattle.link.specs.World.{Fleet, gate_secrets, SealedEntry, bytes_of, is_said}
@@ -32,9 +32,9 @@ use Rattle.refinement.proofs.Written.{bytes→, pair_key, Named, GoodPair, GoodA
 -- ---- a pair that an end holds, and its key material
 
 abbrev pub HeldAs : Fleet → (g h : ℕ) → PairKeys → Pair → Type 0
-HeldAs F g h k p = (p.gate ≡ g) × (p.hand ≡ h) × Named p k.a k.b × (k.key ≡ pair_key F p k.a k.b)
+HeldAs F g h k p = (p.gate ≡ g) × (p.hand ≡ h) × Named p k.nonces.anonce k.nonces.snonce × (k.key ≡ pair_key F p k.nonces.anonce k.nonces.snonce)
 
-pub held_good : (F : Fleet) (g h : ℕ) (k : PairKeys) (p : Pair) → g < 256 → h < 65536 → HeldAs F g h k p → GoodPair F p k.a k.b k.key
+pub held_good : (F : Fleet) (g h : ℕ) (k : PairKeys) (p : Pair) → g < 256 → h < 65536 → HeldAs F g h k p → GoodPair F p k.nonces.anonce k.nonces.snonce k.key
 held_good F g h k p lg lh f = let x = f.0 in let y = f.1 in (omega arith, omega arith, f.2, f.3)
 
 -- ---- the key of a message's tag, by its name
@@ -49,9 +49,9 @@ key_of F (Load d c z p) a b = pair_key F p a b
 key_of F (All g n c z) a b = group_key (gate_secrets F g) n
 
 match_is : (F : Fleet) (g h : ℕ) (p : Pair) (a b t : List ℕ) (k : PairKeys) → HeldAs F g h k p → matching a b k ≡ Key t → t ≡ pair_key F p a b
-match_is F g h p a b t k f = go (same_bytes a k.a && same_bytes b k.b) (λ u. (bytes→ a k.a (and_l _ _ u), bytes→ b k.b (and_r (same_bytes a k.a) _ u)))
+match_is F g h p a b t k f = go (same_bytes a k.nonces.anonce && same_bytes b k.nonces.snonce) (λ u. (bytes→ a k.nonces.anonce (and_l _ _ u), bytes→ b k.nonces.snonce (and_r (same_bytes a k.nonces.anonce) _ u)))
   where
-    go : (u : Bool) → (T u → (a ≡ k.a) × (b ≡ k.b)) → cond u (Key k.key) Mismatch ≡ Key t → t ≡ pair_key F p a b
+    go : (u : Bool) → (T u → (a ≡ k.nonces.anonce) × (b ≡ k.nonces.snonce)) → cond u (Key k.key) Mismatch ≡ Key t → t ≡ pair_key F p a b
     go true same e =
         let x = same tt in
         let y : t ≡ k.key = cc in
@@ -101,7 +101,7 @@ said_find F x (e ∷ es) t h =
     (or_e (same_bytes x (bytes_of F e)) (is_said F x es) t)
 
 key_as : (F : Fleet) (m : Message) (a b k q x y t : List ℕ) → is_tagged m ≡ true → GoodAs F m a b k q →
-    key_of F (message_of (row_of (parts_of m a b x y t))) (parts_of m a b x y t).a (parts_of m a b x y t).b ≡ k
+    key_of F (message_of (row_of (parts_of m a b x y t))) (parts_of m a b x y t).nonces.anonce (parts_of m a b x y t).nonces.snonce ≡ k
 key_as F (Begin g h n) a b k q x y t e f = let none : ◌≡◌ {A = ℕ} 0 1 = cc in absurd (omega arith)
 key_as F (Reply p) a b k q x y t e f = sym f.3
 key_as F (Take n c p) a b k q x y t e f = sym f.0.3
@@ -127,18 +127,18 @@ tagged_blank (Load d c z p) a b x y t = refl
 tagged_blank (All g n c z) a b x y t = refl
 
 pub accepted : (F : Fleet) (x : List ℕ) (c : Cut) (k : List ℕ) (es : List SealedEntry) → AllGood F es → cut x ≡ Ok c → is_tagged (message_of (row_of c)) ≡ true →
-    k ≡ key_of F (message_of (row_of c)) c.a c.b → T (is_said F x es) → Accepted F c k (entries_of es)
+    k ≡ key_of F (message_of (row_of c)) c.nonces.anonce c.nonces.snonce → T (is_said F x es) → Accepted F c k (entries_of es)
 accepted F x c k es ok ec tagged ek said =
     let f = said_find F x es said ok in
     let s : Sealed = f.0.«sealed» in
     let same : c ≡ sealed_parts F s = same_cut c (sealed_parts F s) (sym ec ∙ ap cut f.1 ∙ sealed_cut F s f.2) in
     let t : is_tagged s.message ≡ true = sym (tagged_blank s.message s.a s.b _ _ _) ∙ (sym (ap (λ d. is_tagged (message_of (row_of d))) same) ∙ tagged) in
-    (s, same, ek ∙ (ap (λ d. key_of F (message_of (row_of d)) d.a d.b) same ∙ key_as F s.message s.a s.b s.key s.group _ _ _ t f.2), f.2, f.3)
+    (s, same, ek ∙ (ap (λ d. key_of F (message_of (row_of d)) d.nonces.anonce d.nonces.snonce) same ∙ key_as F s.message s.a s.b s.key s.group _ _ _ t f.2), f.2, f.3)
 
 -- ---- a begin may be anybody's bytes: its nonce's numbers are those of its 32 bytes
 
 abbrev BeginCut : Cut → Type 0
-BeginCut c = (g h : ℕ) (n : Nonce) → message_of (row_of c) ≡ Begin g h n → (nonce_of c.a ≡ n) × (length c.a ≡ 32)
+BeginCut c = (g h : ℕ) (n : Nonce) → message_of (row_of c) ≡ Begin g h n → (nonce_of c.nonces.anonce ≡ n) × (length c.nonces.anonce ≡ 32)
 
 by_fit : (b : Bool) (d c : Cut) → cond b (Ok d) (Err NoRow) ≡ Ok c → (b ≡ true) × (d ≡ c)
 by_fit true d c e = (refl, same_cut d c e)

@@ -17,7 +17,7 @@ use Rattle.protocol.specs.Rules.{Out, quiet, within, accepts, end_hears, answers
 use Rattle.protocol.specs.Calls.{is_tagged, hand_verdict, gate_verdict, hand_hears_row, gate_hears_row}
 use Rattle.sealing.specs.Secrets.{Secrets, pairwise_key}
 use Rattle.sealing.specs.Seal.{Sealed, same_bytes}
-use Rattle.link.specs.declared.keys.PairKeys.{PairKeys}
+use Rattle.sealing.specs.declared.keys.PairKeys.{PairKeys}
 use Rattle.link.specs.declared.keys.GateKeys.{GateKeys}
 use Rattle.link.specs.declared.keys.HandKeys.{HandKeys}
 use Rattle.link.specs.declared.keys.TagKey.{TagKey}
@@ -39,7 +39,7 @@ not_held false u false w k l e = (refl, refl)
 
 held_none : (p : Pair) (a b : List ℕ) (e : Endpoint) (o k : PairKeys) → held_key p a b e o k ≡ Missing → (is_this p e.offered ≡ false) × (is_this p e.key ≡ false)
 held_none p a b e o k h =
-    not_held (is_this p e.offered) (same_bytes a o.a && same_bytes b o.b) (is_this p e.key) (same_bytes a k.a && same_bytes b k.b) o.key k.key h
+    not_held (is_this p e.offered) (same_bytes a o.nonces.anonce && same_bytes b o.nonces.snonce) (is_this p e.key) (same_bytes a k.nonces.anonce && same_bytes b k.nonces.snonce) o.key k.key h
 
 -- a load for a pair that is not in use
 end_idle : (d : Direction) (c b : ℕ) (p : Pair) (e : Endpoint) → is_this p e.key ≡ false → end_hears d c b p e ≡ quiet e
@@ -83,7 +83,7 @@ hand_idle s y ks a b (All g n c v) t e =
     (and_false (is_some x.end.key && ltb 0 n && eqb n x.group) _ (all_none (ltb 0 n) (eqb n x.group) (gate_keys g ks).group (is_some x.end.key) e)))
 
 pub hand_by_tag : (v : Secrets) (s : ℕ) (x : List ℕ) (c : Cut) (m : Message) (y : HandState) (ks : List GateKeys) → is_tagged m ≡ true →
-    hand_message v s x c m y ks ≡ hand_tagged v s x c (hand_tag_key y ks c.a c.b m) y ks
+    hand_message v s x c m y ks ≡ hand_tagged v s x c (hand_tag_key y ks c.nonces.anonce c.nonces.snonce m) y ks
 hand_by_tag v s x c (Begin g h n) y ks t = let none : ◌≡◌ {A = ℕ} 0 1 = cc in absurd (omega arith)
 hand_by_tag v s x c (Reply p) y ks t = refl
 hand_by_tag v s x c (Take n d p) y ks t = refl
@@ -94,14 +94,14 @@ hand_by_tag v s x c (All g n d b) y ks t = refl
 
 -- hearing the row as if its tag were right
 pub hand_missing : (v : Secrets) (s : ℕ) (x : List ℕ) (c : Cut) (y : HandState) (ks : List GateKeys) → is_tagged (message_of (row_of c)) ≡ true →
-    hand_tag_key y ks c.a c.b (message_of (row_of c)) ≡ Missing → Quiet y ks (hand_tagged v s x c Missing y ks)
+    hand_tag_key y ks c.nonces.anonce c.nonces.snonce (message_of (row_of c)) ≡ Missing → Quiet y ks (hand_tagged v s x c Missing y ks)
 unfolding hand_hears_row
 hand_missing v s x c y ks t e =
     let o : Option Refusal = hand_verdict (length y.peers) s (row_of c) true y in
-    quiet_received y ks o _ (hand_seals ks) (unless_quiet o y _ (hand_idle s y ks c.a c.b (message_of (row_of c)) t e))
+    quiet_received y ks o _ (hand_seals ks) (unless_quiet o y _ (hand_idle s y ks c.nonces.anonce c.nonces.snonce (message_of (row_of c)) t e))
 
 hand_nothing : (v : Secrets) (s : ℕ) (x : List ℕ) (c : Cut) (y : HandState) (ks : List GateKeys) (o : Option Refusal) → is_tagged (message_of (row_of c)) ≡ true →
-    hand_tag_key y ks c.a c.b (message_of (row_of c)) ≡ Missing → Quiet y ks (hand_row v s x c o y ks)
+    hand_tag_key y ks c.nonces.anonce c.nonces.snonce (message_of (row_of c)) ≡ Missing → Quiet y ks (hand_row v s x c o y ks)
 hand_nothing v s x c y ks (Some r) t e = (refl, refl, refl, refl)
 hand_nothing v s x c y ks None t e =
     let m : Message = message_of (row_of c) in
@@ -142,14 +142,14 @@ gate_idle v y r a b (Load Down c z p) t e = refl
 gate_idle v y r a b (All g n c z) t e = refl
 
 pub gate_missing : (v : Secrets) (g : ℕ) (x : List ℕ) (c : Cut) (y : GateState) (r : GateRing) → is_tagged (message_of (row_of c)) ≡ true →
-    gate_tag_key v y r c.a c.b (message_of (row_of c)) ≡ Missing → Quiet y r (gate_tagged v g x c Missing y r)
+    gate_tag_key v y r c.nonces.anonce c.nonces.snonce (message_of (row_of c)) ≡ Missing → Quiet y r (gate_tagged v g x c Missing y r)
 unfolding gate_hears_row
 gate_missing v g x c y r t e =
     let o : Option Refusal = gate_verdict g (length y.peers) (row_of c) true y in
-    quiet_received y r o _ (gate_seals r) (unless_quiet o y _ (gate_idle v y r c.a c.b (message_of (row_of c)) t e))
+    quiet_received y r o _ (gate_seals r) (unless_quiet o y _ (gate_idle v y r c.nonces.anonce c.nonces.snonce (message_of (row_of c)) t e))
 
 gate_nothing : (v : Secrets) (g : ℕ) (x : List ℕ) (c : Cut) (y : GateState) (r : GateRing) (o : Option Refusal) → is_tagged (message_of (row_of c)) ≡ true →
-    gate_tag_key v y r c.a c.b (message_of (row_of c)) ≡ Missing → Quiet y r (gate_row v g x c o y r)
+    gate_tag_key v y r c.nonces.anonce c.nonces.snonce (message_of (row_of c)) ≡ Missing → Quiet y r (gate_row v g x c o y r)
 gate_nothing v g x c y r (Some d) t e = (refl, refl, refl, refl)
 gate_nothing v g x c y r None t e = subst (λ k. Quiet y r (gate_tagged v g x c k y r)) (sym e) (gate_missing v g x c y r t e)
 

@@ -14,7 +14,7 @@ use Rattle.protocol.specs.Calls.{is_for_hand, is_for_gate, verdict, unless, hand
 use Rattle.promise.proofs.Base.{none_some, some_inj}
 use Rattle.sealing.specs.Secrets.{Secrets}
 use Rattle.sealing.specs.Seal.{Sealed, opened_body}
-use Rattle.link.specs.declared.keys.PairKeys.{PairKeys}
+use Rattle.sealing.specs.declared.keys.PairKeys.{PairKeys}
 use Rattle.link.specs.declared.keys.GateKeys.{GateKeys}
 use Rattle.link.specs.declared.keys.TagKey.{TagKey}
 use Rattle.link.specs.declared.keys.TagKey.TheVariants.{Missing, Mismatch, Key}
@@ -88,15 +88,15 @@ module _ (v : Secrets) (s : ℕ) (x : List ℕ) (c : Cut) (y : HandState) (ks : 
     hand_message_lem : (m : Message) → HandRefused (hand_message v s x c m y ks)
     hand_message_lem (Begin g h n) = by_draw (can_draw v y.draws)
       where
-        by_draw : (b : Bool) → HandRefused (cond b (hand_by_row s (unopened true c) y (set ks g (with_offered_keys (begun_keys v s g c.a y) (gate_keys g ks)))) (nothing y ks))
+        by_draw : (b : Bool) → HandRefused (cond b (hand_by_row s (unopened true c) y (set ks g (with_offered_keys (begun_keys v s g c.nonces.anonce y) (gate_keys g ks)))) (nothing y ks))
         by_draw true h = absurd (none_some e (sym fine ∙ h))
         by_draw false h = absurd (none_some e h)
-    hand_message_lem (Reply p) = hand_tagged_lem (hand_tag_key y ks c.a c.b (Reply p))
-    hand_message_lem (Take n d p) = hand_tagged_lem (hand_tag_key y ks c.a c.b (Take n d p))
-    hand_message_lem (Taken p) = hand_tagged_lem (hand_tag_key y ks c.a c.b (Taken p))
-    hand_message_lem (Renew r n d p) = hand_tagged_lem (hand_tag_key y ks c.a c.b (Renew r n d p))
-    hand_message_lem (Load d n b p) = hand_tagged_lem (hand_tag_key y ks c.a c.b (Load d n b p))
-    hand_message_lem (All g n d b) = hand_tagged_lem (hand_tag_key y ks c.a c.b (All g n d b))
+    hand_message_lem (Reply p) = hand_tagged_lem (hand_tag_key y ks c.nonces.anonce c.nonces.snonce (Reply p))
+    hand_message_lem (Take n d p) = hand_tagged_lem (hand_tag_key y ks c.nonces.anonce c.nonces.snonce (Take n d p))
+    hand_message_lem (Taken p) = hand_tagged_lem (hand_tag_key y ks c.nonces.anonce c.nonces.snonce (Taken p))
+    hand_message_lem (Renew r n d p) = hand_tagged_lem (hand_tag_key y ks c.nonces.anonce c.nonces.snonce (Renew r n d p))
+    hand_message_lem (Load d n b p) = hand_tagged_lem (hand_tag_key y ks c.nonces.anonce c.nonces.snonce (Load d n b p))
+    hand_message_lem (All g n d b) = hand_tagged_lem (hand_tag_key y ks c.nonces.anonce c.nonces.snonce (All g n d b))
 
   hand_row_lem : (o : Option Refusal) → hand_verdict (length y.peers) s (row_of c) true y ≡ o → HandRefused (hand_row v s x c o y ks)
   hand_row_lem (Some r) f h = ap (λ z. refused z y ks) (some_inj r e h)
@@ -137,15 +137,15 @@ module _ (v : Secrets) (g : ℕ) (x : List ℕ) (c : Cut) (y : GateState) (r : G
     gate_tagged_lem Mismatch = gate_by_row_lem (unopened false c)
     gate_tagged_lem (Key k) = by_tag (tag_right v.hash k x c)
       where
-        by_tag : (b : Bool) → GateRefused (gate_by_row g (cond b (record { row = code (opened_with v.hash k c); genuine = true }) (unopened false c)) y (cond b (gate_keys_after (record { a = c.a; b = c.b; key = k }) mg y r) r))
+        by_tag : (b : Bool) → GateRefused (gate_by_row g (cond b (record { row = code (opened_with v.hash k c); genuine = true }) (unopened false c)) y (cond b (gate_keys_after (record { nonces = c.nonces; key = k }) mg y r) r))
         by_tag false = gate_by_row_lem (unopened false c)
         by_tag true = λ h.
-            let kept = gate_keys_kept (record { a = c.a; b = c.b; key = k }) mg (opened_body v.hash k mg c.body) (ap (λ l. gate_verdict g (length y.peers) l true y) (gate_row_is g (length y.peers) (row_of c) y fine) ∙ fine) h in
+            let kept = gate_keys_kept (record { nonces = c.nonces; key = k }) mg (opened_body v.hash k mg c.body) (ap (λ l. gate_verdict g (length y.peers) l true y) (gate_row_is g (length y.peers) (row_of c) y fine) ∙ fine) h in
             refused_all y _ (gate_verdict g (length y.peers) (code (opened_with v.hash k c)) true y) _ _ e h ∙ ap (refused e y) kept
 
   gate_row_lem : (o : Option Refusal) → gate_verdict g (length y.peers) (row_of c) true y ≡ o → GateRefused (gate_row v g x c o y r)
   gate_row_lem (Some d) f h = ap (λ z. refused z y r) (some_inj d e h)
-  gate_row_lem None f h = gate_tagged_lem f (gate_tag_key v y r c.a c.b (message_of (row_of c))) h
+  gate_row_lem None f h = gate_tagged_lem f (gate_tag_key v y r c.nonces.anonce c.nonces.snonce (message_of (row_of c))) h
 
 gate_cut_lem : (v : Secrets) (g : ℕ) (x : List ℕ) (d : Result Cut Refusal) (y : GateState) (r : GateRing) (e : Refusal) → (gate_cut v g x d y r).refusal ≡ Some e →
     gate_cut v g x d y r ≡ refused e y r

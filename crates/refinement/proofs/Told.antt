@@ -16,7 +16,7 @@ use Rattle.protocol.specs.World.{gate, hand, may_be_heard, is_sent, put_gate, pu
 use Rattle.promise.proofs.Base.{or_l, cond_case, is_true, from_true, In, in_here}
 use Rattle.sealing.specs.Secrets.{Secrets}
 use Rattle.sealing.specs.Seal.{Sealed, same_bytes, octets_sealed}
-use Rattle.link.specs.declared.keys.PairKeys.{PairKeys}
+use Rattle.sealing.specs.declared.keys.PairKeys.{PairKeys}
 use Rattle.link.specs.declared.keys.GateKeys.{GateKeys}
 use Rattle.link.specs.declared.keys.TagKey.{TagKey}
 use Rattle.link.specs.declared.keys.TagKey.TheVariants.{Key}
@@ -36,7 +36,7 @@ use Rattle.refinement.proofs.Worlds.{Inv, step, gate_out, hand_out, gate_event, 
 -- ---- what was said last
 
 abbrev pub sealed_as : Message → PairKeys → (group : List ℕ) → Sealed
-sealed_as m k q = record { message = m; a = k.a; b = k.b; key = k.key; group = q }
+sealed_as m k q = record { message = m; a = k.nonces.anonce; b = k.nonces.snonce; key = k.key; group = q }
 
 abbrev pub Latest : Message → PairKeys → List SealedEntry → Type 0
 Latest m k [] = ⊥
@@ -129,14 +129,14 @@ module _ (F : Fleet) (w : ByteWorld) (inv : Inv F w) (m : Message) (k : PairKeys
         cond_true (is_hand j w) (put_hand_bytes j (hand_hears_bytes v j (latest F w.said) y ks) w) w t ∙ ap (λ r. put_hand_bytes j r w) e in
         record {
           is = is;
-          keeps = (step F w inv (HandHears j (latest F w.said)) (last_genuine F m k w.said last (λ (c : Cut). hand_tag_key y ks c.a c.b (message_of (row_of c))))).0;
+          keeps = (step F w inv (HandHears j (latest F w.said)) (last_genuine F m k w.said last (λ (c : Cut). hand_tag_key y ks c.nonces.anonce c.nonces.snonce (message_of (row_of c))))).0;
           rows = ap (λ (u : ByteWorld). u.rows) is ∙ ap (λ o. put_hand j o w.rows) (hand_out None (hand_hears j m y) keys)
               ∙ hand_event F w inv j t m (hand_hears j m y) may (hears_hand n j m mine) (sym (hand_row_heard n j m y (hand_verdict_none j m y small mine)));
         }
 
     -- a message with a tag, whose key it has
     pub hand_told : is_tagged m ≡ true → T (is_small (code (blank m))) →
-        ((q : List ℕ) → hand_tag_key y ks (sealed_parts F (z q)).a (sealed_parts F (z q)).b (message_of (row_of (sealed_parts F (z q)))) ≡ Key k.key) →
+        ((q : List ℕ) → hand_tag_key y ks (sealed_parts F (z q)).nonces.anonce (sealed_parts F (z q)).nonces.snonce (message_of (row_of (sealed_parts F (z q)))) ≡ Key k.key) →
         (q : List ℕ) × HandTold (hand_keys_after q m y ks)
     unfolding hand_hears_bytes
     hand_told tagged small0 key =
@@ -145,13 +145,13 @@ module _ (F : Fleet) (w : ByteWorld) (inv : Inv F w) (m : Message) (k : PairKeys
         let x : List ℕ = octets_sealed F.hash (z q) in
         let c : Cut = sealed_parts F (z q) in
         let fine : hand_verdict n j (row_of c) true y ≡ None =
-        ap (λ l. hand_verdict n j l true y) (parts_row m k.a k.b _ _ _) ∙ hand_verdict_none j (blank m) y small0 (subst T (sym (for_hand_blank n j m)) mine) in (
+        ap (λ l. hand_verdict n j l true y) (parts_row m k.nonces.anonce k.nonces.snonce _ _ _) ∙ hand_verdict_none j (blank m) y small0 (subst T (sym (for_hand_blank n j m)) mine) in (
           q,
           hand_told_as (hand_keys_after q m y ks) (
               ap (λ x. hand_hears_bytes v j x y ks) l.1
               ∙ ap (λ d. hand_cut v j x d y ks) (sealed_cut F (z q) l.2)
               ∙ ap (λ o. hand_row v j x c o y ks) fine
-              ∙ hand_by_tag v j x c (message_of (row_of c)) y ks (tagged_blank m k.a k.b _ _ _ ∙ tagged)
+              ∙ hand_by_tag v j x c (message_of (row_of c)) y ks (tagged_blank m k.nonces.anonce k.nonces.snonce _ _ _ ∙ tagged)
               ∙ ap (λ t. hand_tagged v j x c t y ks) (key q)
               ∙ hand_accepts F j y ks (inv.hands j) (hand_few F w inv j t) (near_hand F w inv j t) x (z q) l.2 (tag_right_lem F (z q) tagged l.2)
               ∙ (λ i. received (hand_verdict_none j m y small mine i) (hand_row_heard n j m y (hand_verdict_none j m y small mine) i) (hand_keys_after q m y ks) (hand_seals (hand_keys_after q m y ks)))),
@@ -180,7 +180,7 @@ module _ (F : Fleet) (w : ByteWorld) (inv : Inv F w) (m : Message) (k : PairKeys
     GateTold s = Becomes F w (tell_gate F g w) (put_gate_bytes g (received None (gate_hears m yg) ring (gate_seals ring)) w) (Hears s m)
 
     pub gate_told : (s : ℕ) → is_tagged m ≡ true → T (is_small (code (blank m))) →
-        ((q : List ℕ) → gate_tag_key vg yg r (sealed_parts F (z q)).a (sealed_parts F (z q)).b (message_of (row_of (sealed_parts F (z q)))) ≡ Key k.key) → GateTold s
+        ((q : List ℕ) → gate_tag_key vg yg r (sealed_parts F (z q)).nonces.anonce (sealed_parts F (z q)).nonces.snonce (message_of (row_of (sealed_parts F (z q)))) ≡ Key k.key) → GateTold s
     unfolding gate_hears_bytes
     gate_told s tagged small0 key =
         let l = said_last F m k w.said inv.said last in
@@ -189,7 +189,7 @@ module _ (F : Fleet) (w : ByteWorld) (inv : Inv F w) (m : Message) (k : PairKeys
         let c : Cut = sealed_parts F (z q) in
         let none : gate_verdict g ng (code m) true yg ≡ None = gate_verdict_none g m yg small mine in
         let fine : gate_verdict g ng (row_of c) true yg ≡ None =
-        ap (λ l. gate_verdict g ng l true yg) (parts_row m k.a k.b _ _ _) ∙ gate_verdict_none g (blank m) yg small0 (subst T (sym (for_gate_blank g ng m)) mine) in
+        ap (λ l. gate_verdict g ng l true yg) (parts_row m k.nonces.anonce k.nonces.snonce _ _ _) ∙ gate_verdict_none g (blank m) yg small0 (subst T (sym (for_gate_blank g ng m)) mine) in
         let heard : gate_hears_bytes vg g (latest F w.said) yg r ≡ received None (gate_hears m yg) ring (gate_seals ring) =
         ap (λ x. gate_hears_bytes vg g x yg r) l.1
         ∙ ap (λ d. gate_cut vg g x d yg r) (sealed_cut F (z q) l.2)
@@ -201,7 +201,7 @@ module _ (F : Fleet) (w : ByteWorld) (inv : Inv F w) (m : Message) (k : PairKeys
         cond_true (is_gate g w) (put_gate_bytes g (gate_hears_bytes vg g (latest F w.said) yg r) w) w t ∙ ap (λ z. put_gate_bytes g z w) heard in
         record {
           is = is;
-          keeps = (step F w inv (GateHears g (latest F w.said)) (last_genuine F m k w.said last (λ (c : Cut). gate_tag_key vg yg r c.a c.b (message_of (row_of c))))).0;
+          keeps = (step F w inv (GateHears g (latest F w.said)) (last_genuine F m k w.said last (λ (c : Cut). gate_tag_key vg yg r c.nonces.anonce c.nonces.snonce (message_of (row_of c))))).0;
           rows = ap (λ (u : ByteWorld). u.rows) is ∙ ap (λ o. put_gate g o w.rows) (gate_out None (gate_hears m yg) ring)
               ∙ gate_event F w inv g t s m (gate_hears m yg) may (hears_gate s g ng m mine) (sym (gate_row_heard g ng m yg none));
         }
@@ -211,14 +211,14 @@ module _ (F : Fleet) (w : ByteWorld) (inv : Inv F w) (m : Message) (k : PairKeys
 module _ (F : Fleet) (w : ByteWorld) (inv : Inv F w) (g h : ℕ) (a : Nonce) (k : PairKeys) (last : Latest (Begin g h a) k w.said) (small : T (is_small (code (Begin g h a)))) (j : ℕ)
     (t : T (is_hand j w)) (mine : T (is_for_hand (length (hand j w.rows).peers) j (Begin g h a))) where
   pub begin_told : T (can_draw (hand_secrets F j) (hand j w.rows).draws) →
-      HandTold F w inv (Begin g h a) k last small j t mine (set (hand_ring j w) g (with_offered_keys (begun_keys (hand_secrets F j) j g k.a (hand j w.rows)) (gate_keys g (hand_ring j w))))
+      HandTold F w inv (Begin g h a) k last small j t mine (set (hand_ring j w) g (with_offered_keys (begun_keys (hand_secrets F j) j g k.nonces.anonce (hand j w.rows)) (gate_keys g (hand_ring j w))))
   unfolding hand_hears_bytes
   begin_told draw =
       let y : HandState = hand j w.rows in
       let ks : List GateKeys = hand_ring j w in
       let n : ℕ = length y.peers in
       let v : Secrets = hand_secrets F j in
-      let keys : List GateKeys = set ks g (with_offered_keys (begun_keys v j g k.a y) (gate_keys g ks)) in
+      let keys : List GateKeys = set ks g (with_offered_keys (begun_keys v j g k.nonces.anonce y) (gate_keys g ks)) in
       let l = said_last F (Begin g h a) k w.said inv.said last in
       let x : List ℕ = octets_sealed F.hash (sealed_as (Begin g h a) k l.0) in
       let c : Cut = sealed_parts F (sealed_as (Begin g h a) k l.0) in

@@ -31,7 +31,7 @@ use Rattle.promise.proofs.Reach.{sized_happens}
 use Rattle.promise.proofs.Way.{way_on_of}
 use Rattle.sealing.specs.Secrets.{Secrets, pairwise_key, group_key, has_entropy, entropy_at, nonce_bytes}
 use Rattle.sealing.specs.Seal.{noughts, same_bytes}
-use Rattle.link.specs.declared.keys.PairKeys.{PairKeys}
+use Rattle.sealing.specs.declared.keys.PairKeys.{PairKeys}
 use Rattle.link.specs.declared.keys.GateKeys.{GateKeys}
 use Rattle.link.specs.declared.keys.HandKeys.{HandKeys}
 use Rattle.link.specs.declared.keys.TagKey.TheVariants.{Missing, Mismatch, Key}
@@ -141,8 +141,8 @@ abbrev AnySaid : List SealedEntry → Type 0
 AnySaid es = Unit {0}
 
 -- a key held for these very bytes
-match_held : (k : PairKeys) → matching k.a k.b k ≡ Key k.key
-match_held k = cond_true (same_bytes k.a k.a && same_bytes k.b k.b) (Key k.key) Mismatch (and_i _ _ (bytes_refl k.a) (bytes_refl k.b))
+match_held : (k : PairKeys) → matching k.nonces.anonce k.nonces.snonce k ≡ Key k.key
+match_held k = cond_true (same_bytes k.nonces.anonce k.nonces.anonce && same_bytes k.nonces.snonce k.nonces.snonce) (Key k.key) Mismatch (and_i _ _ (bytes_refl k.nonces.anonce) (bytes_refl k.nonces.snonce))
 
 -- numbers of two ends: dg, dh nonces were drawn by them; n, c are the gate's group key and counter
 module _ (F : Fleet) (i j dg dh n c : ℕ) (fi : i < 256) (fj : j < 65536) (fg : dg < limit) (fh : dh < limit) (fn : n ≤ limit) (fc : c ≤ limit) where
@@ -160,7 +160,7 @@ module _ (F : Fleet) (i j dg dh n c : ℕ) (fi : i < 256) (fj : j < 65536) (fg :
 
   -- the key material that both come to have
   abbrev material : PairKeys
-  material = record { a = a32; b = b32; key = pairwise_key (gate_secrets F i) j a32 b32 }
+  material = record { nonces = record { anonce = a32; snonce = b32 }; key = pairwise_key (gate_secrets F i) j a32 b32 }
 
   small_pair : Each (λ x. x < 2 ^ 49) (pair_row pair)
   small_pair = (omega arith, (omega arith, (omega arith, (omega arith, (omega arith, (omega arith, (omega arith, (omega arith, tt))))))))
@@ -252,8 +252,8 @@ module _ (F : Fleet) (i j dg dh n c : ℕ) (fi : i < 256) (fj : j < 65536) (fg :
       let keys : List GateKeys = set ks i k in
       let p : Pair = pair_of i j anonce (nonce_of 1 j y.draws) in
       let same : begun_keys v j i a32 y ≡ material =
-      (λ t. record { a = a32; b = nonce_bytes 1 j (e t) (entropy_at v (e t)); key = pairwise_key v i a32 (nonce_bytes 1 j (e t) (entropy_at v (e t))) })
-      ∙ (λ t. record { a = a32; b = b32; key = same_key F i j a32 b32 t }) in
+      (λ t. record { nonces = record { anonce = a32; snonce = nonce_bytes 1 j (e t) (entropy_at v (e t)) }; key = pairwise_key v i a32 (nonce_bytes 1 j (e t) (entropy_at v (e t))) })
+      ∙ (λ t. record { nonces = record { anonce = a32; snonce = b32 }; key = same_key F i j a32 b32 t }) in
       let here = hand_peer_put F i j w st.inv st.li st.lj (y.draws + 1) (hand_begin p (gate_peer i y)).held in
       let there : (gate_keys i keys).offered ≡ material = ap (λ (k : GateKeys). k.offered) (hand_keys_put F i j w st.inv st.li st.lj k) ∙ same in
       let told = begin_told F w st.inv i j anonce (begun_by a32) st.s small_begin j (lt→ltb j (length w.rows.hands) st.lj)

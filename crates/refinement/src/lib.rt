@@ -6,59 +6,43 @@ ghost use Rattle.link.specs.Theorems.{NothingWithoutKey, RefusedBytesAreQuiet, R
 ghost use Rattle.refinement.specs.Kept.{EachEventRefines, KeptBytes};
 
 /// Without the key of its tag hearing any bytes changes nothing.
-pub fn nothing_without_key_stands() -> u8
+pub fn nothing_without_key_stands()
     ensures { NothingWithoutKey }
-{
-    0
-}
+{}
 
 /// Refused bytes change nothing, say nothing and deliver nothing.
-pub fn refused_bytes_are_quiet_stands() -> u8
+pub fn refused_bytes_are_quiet_stands()
     ensures { RefusedBytesAreQuiet }
-{
-    0
-}
+{}
 
 /// Every run on bytes in which no tag was forged is a run on rows, and what was said in bytes is its transcript.
-pub fn refines_stands() -> u8
+pub fn refines_stands()
     ensures { Refines }
-{
-    0
-}
+{}
 
 /// Whatever happens on bytes is for the rules one event or none.
-pub fn each_event_refines_stands() -> u8
+pub fn each_event_refines_stands()
     ensures { EachEventRefines }
-{
-    0
-}
+{}
 
 /// Every run on bytes in which no tag was forged keeps what is promised of one world.
-pub fn kept_bytes_stands() -> u8
+pub fn kept_bytes_stands()
     ensures { KeptBytes }
-{
-    0
-}
+{}
 
 /// No pair comes into use twice at one end, on bytes either.
-pub fn installed_once_bytes_stands() -> u8
+pub fn installed_once_bytes_stands()
     ensures { InstalledOnceBytes }
-{
-    0
-}
+{}
 
 /// While keys of different names differ, no keystream covers two texts: only a take is said again under one, with the
 /// same text.
-pub fn streams_once_stands() -> u8
+pub fn streams_once_stands()
     ensures { StreamsOnce }
-{
-    0
-}
+{}
 
 /// From any state, while both have draws and entropy left, the next handshake in bytes joins them with one key, and
 /// frames go through.
-pub fn way_on_bytes_stands() -> u8
+pub fn way_on_bytes_stands()
     ensures { WayOnBytes }
-{
-    0
-}
+{}

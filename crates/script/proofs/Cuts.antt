@@ -1,9 +1,8 @@
 -- The steps of cutting a line into words.
-use Rattle.std.proofs.Common.{◌≡◌, ℕ, ◌+◌, ◌<◌, ◌≤◌, Bool, true, false, cond, ◌&&◌, ◌||◌, eqb, ◌⊎◌, List, [], ◌∷◌, ◌++◌, length, get_or, drop, sym, refl, ap, ◌∙◌, inl, inr, arith, length-drop}
+use Rattle.std.proofs.Common.{◌≡◌, ℕ, zero, suc, ◌+◌, ◌<◌, ◌≤◌, true, false, cond, List, [], ◌∷◌, ◌++◌, length, get_or, take, drop, Some, None, Option, MatchOption, unwrap_or, sym, refl, ap, ◌∙◌, arith, add-one}
+use Rattle.std.proofs.lemmas.List.{drop_more, at_drop_more, at_drop_all, length-take-le, take_more, take_rest}
+use Rattle.std.proofs.lemmas.Bool.{false≢true}
 use Rattle.std.specs.List.{between}
-use Rattle.std.proofs.lemmas.List.Edits.{between_none, between_more, length-between}
-use Rattle.std.proofs.lemmas.List.{drop_more, at_drop_more, at_drop_all, take_rest}
-use Rattle.std.proofs.lemmas.Bool.Decides.{nat_tests}
 use Rattle.script.specs.Line.{starts_blank, word_then, words_after, words}
 
 -- a word of one byte or more
@@ -11,39 +10,43 @@ pub then_some : (w : List ℕ) (ws : List (List ℕ)) → 0 < length w → word_
 then_some [] ws h = absurd (omega arith)
 then_some (b ∷ bs) ws h = refl
 
--- at the byte i of the line l
-module _ (l : List ℕ) (i : ℕ) where
-  pub blank_here : i < length l → starts_blank (drop i l) ≡ (eqb (get_or l i 0) 32 || (eqb (get_or l i 0) 9 || (eqb (get_or l i 0) 13 && eqb (i + 1) (length l))))
-  blank_here h =
-      let last : eqb (length (drop (i + 1) l)) 0 ≡ eqb (i + 1) (length l) = grind (arith, nat_tests, length-drop (i + 1) l) in
-      at_drop_more starts_blank l i 0 h ∙ ap (λ (t : Bool). eqb (get_or l i 0) 32 || (eqb (get_or l i 0) 9 || (eqb (get_or l i 0) 13 && t))) last
+abbrev pub IsBlankAt : List ℕ → ℕ → Type 0
+IsBlankAt l k = starts_blank (between k (length l) l) ≡ true
 
-  step : (w : List ℕ) (t : Bool) → i < length l → starts_blank (drop i l) ≡ t → words_after w (drop i l) ≡ cond t (word_then w (words (drop (i + 1) l))) (words_after (w ++ get_or l i 0 ∷ []) (drop (i + 1) l))
-  step w t h e =
-      let here : starts_blank (get_or l i 0 ∷ drop (i + 1) l) ≡ t = rw (drop_more l i 0 h) at e in
+abbrev pub IsDarkAt : List ℕ → ℕ → Type 0
+IsDarkAt l k = starts_blank (between k (length l) l) ≡ false
+
+-- where the first blank stands, if there is one
+abbrev pub Ends : List ℕ → Option ℕ → Type 0
+Ends l o = MatchOption o ((k : ℕ) → 0 ≤ k → k < length l → IsDarkAt l k) (λ i. (0 ≤ i) × (i < length l) × IsBlankAt l i × ((k : ℕ) → 0 ≤ k → k < i → IsDarkAt l k))
+
+module _ (l : List ℕ) where
+  step : (w : List ℕ) (t : _) (i : ℕ) → i < length l → starts_blank (between i (length l) l) ≡ t → words_after w (drop i l) ≡ cond t (word_then w (words (drop (i + 1) l))) (words_after (w ++ get_or l i 0 ∷ []) (drop (i + 1) l))
+  step w t i h e =
+      let here : starts_blank (get_or l i 0 ∷ drop (i + 1) l) ≡ t = ap starts_blank (sym (drop_more l i 0 h) ∙ sym (take_rest l i)) ∙ e in
       at_drop_more (words_after w) l i 0 h ∙ rw here refl
 
-  pub skip : i < length l → starts_blank (drop i l) ≡ true → words (drop i l) ≡ words l → words (drop (i + 1) l) ≡ words l
-  skip h e so = sym (step [] true h e) ∙ so
+  -- none of the first k bytes is a blank
+  grow : (k : ℕ) → k ≤ length l → ((j : ℕ) → 0 ≤ j → j < k → IsDarkAt l j) → words_after (take k l) (drop k l) ≡ words l
+  grow zero h dark = refl
+  grow (suc k) h dark =
+      let on : words_after (take (k + 1) l) (drop (k + 1) l) ≡ words l =
+      ap (λ (w : List ℕ). words_after w (drop (k + 1) l)) (take_more l k 0 (omega arith))
+      ∙ sym (step (take k l) false k (omega arith) (dark k (omega arith) (omega arith))) ∙ grow k (omega arith) (λ j f b. dark j f (omega arith)) in
+      rw (← add-one k) on
 
-  pub none : length l ≤ i → words (drop i l) ≡ words l → words l ≡ []
-  none h so = sym so ∙ at_drop_all words l i h
+  module _ (some : 0 < length l) (dark : starts_blank l ≡ false) where
+    word_to : (e : ℕ) → 0 < e → e ≤ length l → ((k : ℕ) → 0 ≤ k → k < e → IsDarkAt l k) → words_after (take e l) (drop e l) ≡ word_then (take e l) (words (drop e l)) → (words l ≡ take e l ∷ words (drop e l)) × (0 < length (take e l))
+    word_to e pos h word cut =
+        let long : 0 < length (take e l) = omega (arith, length-take-le e l h) in
+        (sym (grow e h word) ∙ cut ∙ then_some (take e l) (words (drop e l)) long, long)
 
-  -- the word that begins at `from` goes on to i
-  module _ (from : ℕ) (so : words_after (between from i l) (drop i l) ≡ words l) where
-    pub grow : from ≤ i → i < length l → starts_blank (drop i l) ≡ false → words_after (between from (i + 1) l) (drop (i + 1) l) ≡ words l
-    grow g h e = ap (λ (w : List ℕ). words_after w (drop (i + 1) l)) (between_more l from i 0 g h) ∙ sym (step (between from i l) false h e) ∙ so
-
-    pub ends : from < i → i ≤ length l → (length l ≤ i) ⊎ ((i < length l) × (starts_blank (drop i l) ≡ true)) → (words l ≡ between from i l ∷ words (between i (length l) l)) × (0 < length (between from i l))
-    ends g h at =
-        let w : List ℕ = between from i l in
-        let some : 0 < length w = omega (arith, length-between l from i h) in
-        let cut : words_after w (drop i l) ≡ word_then w (words (drop i l)) =
-        elim at [
-          | inl past ↦ at_drop_all (words_after w) l i past ∙ sym (at_drop_all (λ r. word_then w (words r)) l i past)
-          | inr (inside, e) ↦ step w true inside e ∙ ap (word_then w) (sym (step [] true inside e))
-        ] in
-        (sym so ∙ cut ∙ then_some w (words (drop i l)) some ∙ ap (λ r. w ∷ words r) (sym (take_rest l i)), some)
-
-  pub begins : i < length l → starts_blank (drop i l) ≡ false → words (drop i l) ≡ words l → words_after (between i (i + 1) l) (drop (i + 1) l) ≡ words l
-  begins h e so = grow i (ap (λ (w : List ℕ). words_after w (drop i l)) (between_none l i) ∙ so) (omega arith) h e
+    -- the word ends with the line, or before a blank
+    pub one_word : (o : Option ℕ) → Ends l o → (words l ≡ take (unwrap_or o (length l)) l ∷ words (drop (unwrap_or o (length l)) l)) × (0 < length (take (unwrap_or o (length l)) l))
+    one_word None word =
+        let w : List ℕ = take (length l) l in
+        word_to (length l) some (omega arith) word (at_drop_all (words_after w) l (length l) (omega arith) ∙ sym (at_drop_all (λ r. word_then w (words r)) l (length l) (omega arith)))
+    one_word (Some i) (f, b, blank, word) =
+        let w : List ℕ = take i l in
+        let past : 0 ≡ i → ⊥ = λ e. false≢true (sym dark ∙ ap starts_blank (sym (take_rest l 0)) ∙ ap (λ (k : ℕ). starts_blank (between k (length l) l)) e ∙ blank) in
+        word_to i (omega arith) (omega arith) word (step w true i b blank ∙ ap (word_then w) (sym (step [] true i b blank)))

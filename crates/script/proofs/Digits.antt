@@ -1,13 +1,11 @@
 -- The steps of reading a number.
-use Rattle.std.proofs.Common.{◌≡◌, ℕ, ◌+◌, ◌-◌, ◌*◌, ◌^◌, ◌<◌, ◌≤◌, min, Bool, true, false, cond, ◌&&◌, eqb, ltb, List, length, get_or, take, drop, Some, None, sym, ap, ◌∙◌, arith}
+use Rattle.std.proofs.Common.{◌≡◌, ℕ, ◌+◌, ◌-◌, ◌*◌, ◌^◌, ◌<◌, min, Bool, true, ◌&&◌, List, length, get_or, take, drop, sym, ap, ◌∙◌, arith}
 use Rattle.std.specs.Str.Parse.{digits_value}
 use Rattle.std.specs.Char.{is_ascii_digit, digit_value as value_of_digit}
 use Rattle.std.specs.Str.{all_ascii_digits}
 use Rattle.std.proofs.lemmas.Int.Digits.{digits_value_more}
-use Rattle.std.proofs.lemmas.List.{at_drop_more, at_drop_all, take_all}
-use Rattle.std.proofs.lemmas.Bool.{and_right, eqb-false, lt-ltb}
+use Rattle.std.proofs.lemmas.List.{at_drop_more}
 use Rattle.std.proofs.lemmas.Bool.Decides.{nat_tests}
-use Rattle.script.specs.Line.{is_number, amount, number_of}
 
 -- the first i bytes of w are digits, and n is their number
 pub record Sofar (w : List ℕ) (i n : ℕ) : Type 0 where
@@ -18,20 +16,8 @@ digit_value : (b : ℕ) → is_ascii_digit b ≡ true → value_of_digit b ≡ b
 digit_value b e = grind (arith, nat_tests)
 
 module _ {w : List ℕ} {i n : ℕ} (so : Sofar w i n) where
-  pub no_digit : i < length w → is_ascii_digit (get_or w i 0) ≡ false → None ≡ number_of w
-  no_digit h e =
-      let none : all_ascii_digits w ≡ false = sym so.digits ∙ at_drop_more all_ascii_digits w i 0 h ∙ ap (λ (t : Bool). t && all_ascii_digits (drop (i + 1) w)) e in
-      sym (ap (λ (t : Bool). cond t (Some (amount w)) None) (and_right (ltb 0 (length w)) (all_ascii_digits w) none))
-
   pub one_more : (m : ℕ) → i < length w → is_ascii_digit (get_or w i 0) ≡ true → m ≡ min (n * 10 + (get_or w i 0 - 48)) (2 ^ 64 - 1) → Sofar w (i + 1) m
   one_more m h e is = record {
     digits = ap (λ (t : Bool). t && all_ascii_digits (drop (i + 1) w)) (sym e) ∙ sym (at_drop_more all_ascii_digits w i 0 h) ∙ so.digits;
     count = omega (arith, digits_value_more 10 w i h, digit_value (get_or w i 0) e, so.count);
   }
-
-  pub all_read : eqb (length w) 0 ≡ false → length w ≤ i → Some n ≡ number_of w
-  all_read some h =
-      let digits : all_ascii_digits w ≡ true = sym so.digits ∙ at_drop_all all_ascii_digits w i h in
-      let is : is_number w ≡ true = ap (λ (t : Bool). t && all_ascii_digits w) (lt-ltb 0 (length w) (omega (arith, eqb-false (length w) 0 some))) ∙ digits in
-      let n-is : n ≡ amount w = so.count ∙ ap (λ (v : List ℕ). amount v) (take_all i w h) in
-      ap (λ (k : ℕ). Some k) n-is ∙ sym (ap (λ (t : Bool). cond t (Some (amount w)) None) is)

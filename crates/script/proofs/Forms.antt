@@ -7,8 +7,8 @@ use Rattle.script.specs.declared.command.Form.{Form}
 use Rattle.script.specs.declared.command.Form.TheVariants as form
 use Rattle.script.specs.declared.command.Keyword.{Keyword}
 use Rattle.script.specs.declared.command.Keyword.TheVariants as keyword
-use Rattle.script.specs.declared.command.Malformed.{Malformed}
-use Rattle.script.specs.declared.command.Malformed.TheVariants.{NotACommand, Expected}
+use Rattle.script.specs.declared.fault.Malformed.{Malformed}
+use Rattle.script.specs.declared.fault.Malformed.TheVariants.{NotACommand, Expected}
 use Rattle.script.specs.Line.{Part, Number, Word}
 use Rattle.script.specs.Commands.{Answered, Begins, opening, spelling, written}
 
@@ -64,7 +64,7 @@ begins (command.ForgetGate gate) = (form.ForgetGate, (gate, [], refl))
 begins (command.SendUp hand gate body) = (form.SendUp, (hand, Number gate ∷ Number body ∷ [], refl))
 begins (command.ForgetHand hand) = (form.ForgetHand, (hand, [], refl))
 begins (command.Hear hand place) = (form.Hear, (0, Number hand ∷ Number place ∷ [], refl))
-begins (command.Begin gate hand kind node index) = (form.Begin, (0, Number gate ∷ Number hand ∷ Number kind ∷ Number node ∷ Number index ∷ [], refl))
+begins (command.Begin gate hand anonce) = (form.Begin, (0, Number gate ∷ Number hand ∷ Number anonce.kind ∷ Number anonce.node ∷ Number anonce.index ∷ [], refl))
 
 -- a line that begins as none does
 no_form : (ps : List Part) → ((f : Form) → Begins ps f → ⊥) → Answered ps (Err NotACommand)
@@ -76,34 +76,38 @@ NoNumber ps = (n : ℕ) (qs : List Part) → ps ≡ Number n ∷ qs → ⊥
 abbrev NoKeyword : List Part → Type 0
 NoKeyword ps = (k : Keyword) (qs : List Part) → ps ≡ Word (spelling k) ∷ qs → ⊥
 
-pub no_opening : (ps : List Part) → NoNumber ps → NoKeyword ps → Answered ps (Err NotACommand)
-no_opening ps number word =
-    no_form ps (λ f b.
+-- r is that refusal
+told : (ps : List Part) (r : Result Command (Malformed Form)) (e : Malformed Form) → IsErrAnd r (λ y. y ≡ e) → e ≡ NotACommand → Answered ps (Err NotACommand) → Answered ps r
+told ps r e by is h = let p = err_from_is_err_and r by in rw (p.1, p.2, is) h
+
+pub no_opening : (ps : List Part) → NoNumber ps → (r : Result Command (Malformed Form)) (e : Malformed Form) → IsErrAnd r (λ y. y ≡ e) → (e ≡ NotACommand) × NoKeyword ps → Answered ps r
+no_opening ps number r e by (is, word) =
+    told ps r e by is (no_form ps (λ f b.
     let hand = word keyword.Hand in
     let hears = word keyword.Hears in
     let begins = word keyword.Begins in
-    search rules)
+    search rules))
 
-pub no_gate_verb : (n : ℕ) (ps : List Part) → NoKeyword ps → Answered (Number n ∷ ps) (Err NotACommand)
-no_gate_verb n ps never =
-    no_form (Number n ∷ ps) (λ f b.
+pub no_gate_verb : (n : ℕ) (ps : List Part) (r : Result Command (Malformed Form)) (e : Malformed Form) → IsErrAnd r (λ y. y ≡ e) → (e ≡ NotACommand) × NoKeyword ps → Answered (Number n ∷ ps) r
+no_gate_verb n ps r e by (is, never) =
+    told (Number n ∷ ps) r e by is (no_form (Number n ∷ ps) (λ f b.
     let invites = never keyword.Invites in
     let sends = never keyword.Sends in
     let all = never keyword.All in
     let turns = never keyword.Turns in
     let words = never keyword.Words in
     let forgets = never keyword.Forgets in
-    search rules)
+    search rules))
 
-pub no_hand_verb : (n : ℕ) (ps : List Part) → NoKeyword ps → Answered (Word (codes "hand") ∷ Number n ∷ ps) (Err NotACommand)
-no_hand_verb n ps never =
-    no_form (Word (codes "hand") ∷ Number n ∷ ps) (λ f b.
+pub no_hand_verb : (n : ℕ) (ps : List Part) (r : Result Command (Malformed Form)) (e : Malformed Form) → IsErrAnd r (λ y. y ≡ e) → (e ≡ NotACommand) × NoKeyword ps → Answered (Word (codes "hand") ∷ Number n ∷ ps) r
+no_hand_verb n ps r e by (is, never) =
+    told (Word (codes "hand") ∷ Number n ∷ ps) r e by is (no_form (Word (codes "hand") ∷ Number n ∷ ps) (λ f b.
     let sends = never keyword.Sends in
     let forgets = never keyword.Forgets in
-    search rules)
+    search rules))
 
 -- after the words ws come a keyword and then qs, which is not what the form goes on with
-pub refuses : (ws ps qs : List Part) (k : Keyword) → ps ≡ Word (spelling k) ∷ qs → (f : Form) (n : ℕ) (verb : Keyword) → k ≡ verb → ws ++ Word (spelling verb) ∷ qs ≡ opening f n ++ qs → (r : Result Command Malformed) (e : Malformed) → IsErrAnd r (λ y. y ≡ e) → (e ≡ Expected f) × Unlike (arity f) qs → Answered (ws ++ ps) r
+pub refuses : (ws ps qs : List Part) (k : Keyword) → ps ≡ Word (spelling k) ∷ qs → (f : Form) (n : ℕ) (verb : Keyword) → k ≡ verb → ws ++ Word (spelling verb) ∷ qs ≡ opening f n ++ qs → (r : Result Command (Malformed Form)) (e : Malformed Form) → IsErrAnd r (λ y. y ≡ e) → (e ≡ Expected f) × Unlike (arity f) qs → Answered (ws ++ ps) r
 refuses ws ps qs k told f n verb is same r e by why =
     let begun : ws ++ ps ≡ opening f n ++ qs = ap (λ (l : List Part). ws ++ l) (told ∙ ap (λ (v : Keyword). Word (spelling v) ∷ qs) is) ∙ same in
     let p = err_from_is_err_and r by in

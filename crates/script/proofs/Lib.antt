@@ -3,4 +3,5 @@ pub mod Digits
 pub mod Forms
 pub mod Numbers
 pub mod Reading
-pub mod Rows
+pub mod Readings
+pub mod Spaced

@@ -1,6 +1,8 @@
 -- The steps of reading a line that is to have just so many numbers.
-use Rattle.std.proofs.Common.{◌≡◌, ℕ, zero, suc, ◌+◌, ◌-◌, ◌<◌, ◌≤◌, List, [], ◌∷◌, ◌++◌, map, length, get_or, take, drop, set, Option, sym, refl, ap, ◌∙◌, arith}
+use Rattle.std.proofs.Common.{◌≡◌, ℕ, zero, suc, ◌+◌, ◌-◌, ◌<◌, ◌≤◌, List, [], ◌∷◌, ◌++◌, map, length, get_or, take, drop, set, Bool, true, false, not, Some, None, Option, MatchOption, Bor, sym, refl, ap, ◌∙◌, arith}
 use Rattle.std.proofs.lemmas.List.{append_assoc, append-nil, drop_at, drop-map, get_or_at, length-drop, length-map, length_push, length-set, length-take, map_push, take_all, take_more_set}
+use Rattle.std.specs.Option.{is_some}
+use Rattle.std.specs.Bool.{then_some}
 use Rattle.script.specs.Line.{Part, Number, number_of, numbers_from, part_by, parts, words}
 
 first_part : (line w rest : List ℕ) (o : Option ℕ) → words line ≡ w ∷ words rest → o ≡ number_of w → parts line ≡ part_by w o ∷ parts rest
@@ -58,3 +60,11 @@ module _ {n : ℕ} {line rest all : List ℕ} {i : ℕ} (so : Sofar n line rest 
   all_numbers h e =
       so.read ∙ ap (λ (l : List Part). map Number (take i all) ++ l) (no_part rest e) ∙ append-nil (map Number (take i all))
       ∙ ap (map Number) (take_all i all (omega (arith, so.long))) ∙ numbers_are n all [] all so.long refl
+
+  -- there is another word, or none
+  pub whole_line : i ≤ n → n ≤ i → (next : Option (Bor (List ℕ) × Bor (List ℕ))) → MatchOption next (words rest ≡ []) (λ p. (words rest ≡ p.0.now ∷ words p.1.now) × (0 < length p.0.now)) → (none : Bool) → is_some next ≡ not none →
+      MatchOption (then_some none all) ((ns : List ℕ) → length ns ≡ n → parts line ≡ map Number ns → ⊥) (λ ns. parts line ≡ numbers_from 0 n ns)
+  whole_line h k None e true is = all_numbers k e
+  whole_line h k None e false is = absurd (cc)
+  whole_line h k (Some p) e true is = absurd (cc)
+  whole_line h k (Some p) e false is = too_many h k p.0.now p.1.now e.0

@@ -1,14 +1,14 @@
 -- The commands of a script, as they are written. Assumes nothing.
-use Rattle.std.specs.Prelude.{◌≡◌, ℕ, Bool, true, false, List, [], ◌∷◌, ◌++◌, Some, None, Ok, Err, codes, Option, Result, ◌==◌, ◌≢◌, slice_index}
+use Rattle.std.specs.Prelude.{◌≡◌, ℕ, Bool, true, List, [], ◌∷◌, ◌++◌, codes, Option, Result, ◌==◌, slice_index}
 use Rattle.script.specs.declared.command.Command.{Command}
 use Rattle.script.specs.declared.command.Command.TheVariants as command
 use Rattle.script.specs.declared.command.Form.{Form}
 use Rattle.script.specs.declared.command.Form.TheVariants as form
 use Rattle.script.specs.declared.command.Keyword.{Keyword}
 use Rattle.script.specs.declared.command.Keyword.TheVariants as keyword
-use Rattle.script.specs.declared.command.Malformed.{Malformed}
-use Rattle.script.specs.declared.command.Malformed.TheVariants.{NotACommand, Expected}
+use Rattle.script.specs.declared.fault.Malformed.{Malformed}
 use Rattle.script.specs.Line.{Part, Number, Word, parts, words}
+use Rattle.script.specs.Reading.{NamesBy, AnsweredBy, ReadsBy}
 
 abbrev pub spelling : Keyword → List ℕ
 spelling keyword.Hand = codes "hand"
@@ -32,7 +32,7 @@ written (command.ForgetGate gate) = Number gate ∷ Word (codes "forgets") ∷ [
 written (command.SendUp hand gate body) = Word (codes "hand") ∷ Number hand ∷ Word (codes "sends") ∷ Number gate ∷ Number body ∷ []
 written (command.ForgetHand hand) = Word (codes "hand") ∷ Number hand ∷ Word (codes "forgets") ∷ []
 written (command.Hear hand place) = Word (codes "hears") ∷ Number hand ∷ Number place ∷ []
-written (command.Begin gate hand kind node index) = Word (codes "begins") ∷ Number gate ∷ Number hand ∷ Number kind ∷ Number node ∷ Number index ∷ []
+written (command.Begin gate hand anonce) = Word (codes "begins") ∷ Number gate ∷ Number hand ∷ Number anonce.kind ∷ Number anonce.node ∷ Number anonce.index ∷ []
 
 -- the words by which a line of each form is known; n is the number of the end that acts
 abbrev pub opening : Form → ℕ → List Part
@@ -51,14 +51,12 @@ abbrev pub Begins : List Part → Form → Type 0
 Begins ps f = (n : ℕ) × (qs : List Part) × (ps ≡ opening f n ++ qs)
 
 -- what is wrong with a line that begins so
-abbrev pub Names : List Part → Malformed → Type 0
-Names ps NotACommand = (f : Form) → Begins ps f → ⊥
-Names ps (Expected f) = Begins ps f
+abbrev pub Names : List Part → Malformed Form → Type 0
+Names ps = NamesBy (Begins ps)
 
 -- r is the command that has just these words, or says that there is none
-abbrev pub Answered : List Part → Result Command Malformed → Type 0
-Answered ps (Ok c) = ps ≡ written c
-Answered ps (Err e) = ((c : Command) → ps ≢ written c) × Names ps e
+abbrev pub Answered : List Part → Result Command (Malformed Form) → Type 0
+Answered ps = AnsweredBy (λ c. ps ≡ written c) (Begins ps)
 
 -- a line of no words, or a comment, says nothing
 abbrev pub quiet : List (List ℕ) → Bool
@@ -66,7 +64,5 @@ quiet [] = true
 quiet (w ∷ ws) = slice_index w 0 == 35
 
 -- what a line is read as
-abbrev pub Reads : List ℕ → Result (Option Command) Malformed → Type 0
-Reads line (Ok None) = quiet (words line) ≡ true
-Reads line (Ok (Some c)) = (quiet (words line) ≡ false) × Answered (parts line) (Ok c)
-Reads line (Err e) = (quiet (words line) ≡ false) × Answered (parts line) (Err e)
+abbrev pub Reads : List ℕ → Result (Option Command) (Malformed Form) → Type 0
+Reads line = ReadsBy (quiet (words line)) (λ c. parts line ≡ written c) (Begins (parts line))

@@ -1,8 +1,9 @@
 -- Laws of reading, whatever the line. Assumes nothing.
-use Rattle.std.specs.Prelude.{◌≡◌, ℕ, ◌^◌, ◌<◌, List, [], ◌∷◌, ◌++◌, Some, Ok, codes, decimal, Option, Result}
+use Rattle.std.specs.Prelude.{◌≡◌, ℕ, ◌^◌, ◌<◌, List, [], ◌∷◌, map, Some, Ok, decimal, Option, Result}
 use Rattle.script.specs.declared.command.Command.{Command}
-use Rattle.script.specs.declared.command.Malformed.{Malformed}
-use Rattle.script.specs.Line.{Part, Number, Word, number_of}
+use Rattle.script.specs.declared.command.Form.{Form}
+use Rattle.script.specs.declared.fault.Malformed.{Malformed}
+use Rattle.script.specs.Line.{Part, Number, Word, number_of, spaced}
 use Rattle.script.specs.Commands.{Reads, written}
 
 -- a number reads back as itself
@@ -15,9 +16,7 @@ word_text (Word w) = w
 
 -- the words with one space between two
 abbrev pub line_text : List Part → List ℕ
-line_text [] = []
-line_text (p ∷ []) = word_text p
-line_text (p ∷ q ∷ ps) = word_text p ++ (codes " " ++ line_text (q ∷ ps))
+line_text ps = spaced (map word_text ps)
 
 -- each number fits 64 bits
 abbrev pub Small : List Part → Type 0
@@ -31,4 +30,4 @@ CommandsRead = (c : Command) → Small (written c) → Reads (line_text (written
 
 -- and no line reads in two ways
 abbrev pub OneReading : Type 0
-OneReading = (line : List ℕ) (r s : Result (Option Command) Malformed) → Reads line r → Reads line s → r ≡ s
+OneReading = (line : List ℕ) (r s : Result (Option Command) (Malformed Form)) → Reads line r → Reads line s → r ≡ s

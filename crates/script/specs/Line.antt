@@ -1,5 +1,5 @@
 -- A line of a script: its words, and the numbers among them. Assumes nothing.
-use Rattle.std.specs.Prelude.{ℕ, zero, suc, ◌-◌, ◌^◌, min, Bool, false, cond, ◌&&◌, ◌||◌, List, [], ◌∷◌, ◌++◌, map, length, Some, None, Option, ◌==◌, nat_lt, slice_index}
+use Rattle.std.specs.Prelude.{ℕ, zero, suc, ◌-◌, ◌^◌, min, Bool, false, cond, ◌&&◌, ◌||◌, List, [], ◌∷◌, ◌++◌, map, length, Some, None, codes, Option, ◌==◌, nat_lt, slice_index}
 use Rattle.std.specs.Str.Parse.{digits_value}
 use Rattle.std.specs.Str.{all_ascii_digits}
 
@@ -31,6 +31,12 @@ words_after w (b ∷ bs) = cond (starts_blank (b ∷ bs)) (word_then w (words_af
 
 abbrev pub words : List ℕ → List (List ℕ)
 words bs = words_after [] bs
+
+-- words with one space between two
+abbrev pub spaced : List (List ℕ) → List ℕ
+spaced [] = []
+spaced (w ∷ []) = w
+spaced (w ∷ v ∷ ws) = w ++ (codes " " ++ spaced (v ∷ ws))
 
 -- a word of a line: one that is a number counts as that number
 pub data Part : Type 0 where

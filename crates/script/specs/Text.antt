@@ -3,8 +3,6 @@ use Rattle.std.specs.Prelude.{ℕ, List, ◌++◌, codes, decimal}
 use Rattle.std.specs.List.{flat_map}
 use Rattle.script.specs.declared.command.Form.{Form}
 use Rattle.script.specs.declared.command.Form.TheVariants as form
-use Rattle.script.specs.declared.command.Malformed.{Malformed}
-use Rattle.script.specs.declared.command.Malformed.TheVariants.{NotACommand, Expected}
 use Rattle.frame.specs.declared.message.Node.{Node}
 use Rattle.frame.specs.declared.message.Node.TheVariants.{Gate, Hand}
 
@@ -30,10 +28,6 @@ usage_of form.ForgetHand = codes "hand HAND forgets"
 usage_of form.Hear = codes "hears HAND PLACE"
 usage_of form.Begin = codes "begins GATE HAND KIND NODE INDEX"
 
-abbrev pub fault_text : Malformed → List ℕ
-fault_text NotACommand = codes "not a command"
-fault_text (Expected f) = codes "expected " ++ usage_of f
-
 -- ---- the lines that are printed
 
 abbrev pub sent_text : (place : ℕ) → (row : List ℕ) → List ℕ
@@ -41,7 +35,3 @@ sent_text place row = codes "sent " ++ (decimal place ++ row_text row)
 
 abbrev pub handed_on_text : Node → (row : List ℕ) → List ℕ
 handed_on_text node row = name_of node ++ (codes " hands on" ++ row_text row)
-
--- a complaint names the line
-abbrev pub complaint_text : (line : ℕ) → List ℕ → List ℕ
-complaint_text line text = codes "line " ++ (decimal line ++ (codes ": " ++ text))

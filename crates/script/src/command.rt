@@ -1,65 +1,36 @@
 // The commands of a script.
-ghost use Rattle.std.specs.Prelude.{◌≡◌, ℕ, List, ◌∷◌, map, length, codes, MatchOption, MatchResult, ◌≢◌};
+ghost use Rattle.std.specs.Prelude.{◌≡◌, ℕ, List, ◌∷◌, map, length, codes, MatchResult, ◌≢◌};
 ghost use Rattle.script.specs.Line.{Number, Part, Word, numbers_from, parts};
 ghost use Rattle.script.specs.Commands.{Answered, Reads, spelling};
+ghost use Rattle.script.specs.Reading.{Spells};
 
-use crate::line::{next_number, next_word, numbers};
+use crate::fault::Malformed;
+use crate::line::{first_word, next_number, next_word, numbers};
+use frame::Nonce;
 
 /// What a line tells the network to do.
 #[derive(Clone, Copy)]
 pub enum Command {
     /// The gate invites the handheld.
-    Invite {
-        gate: u64,
-        hand: u64,
-    },
+    Invite { gate: u64, hand: u64 },
     /// The gate sends a body to the handheld.
-    Send {
-        gate: u64,
-        hand: u64,
-        body: u64,
-    },
+    Send { gate: u64, hand: u64, body: u64 },
     /// The gate sends a body to all.
-    Broadcast {
-        gate: u64,
-        body: u64,
-    },
+    Broadcast { gate: u64, body: u64 },
     /// The gate takes a new group key.
-    Rotate {
-        gate: u64,
-    },
+    Rotate { gate: u64 },
     /// The gate gives the handheld word of its group key.
-    Rekey {
-        gate: u64,
-        hand: u64,
-    },
+    Rekey { gate: u64, hand: u64 },
     /// The gate is switched off and on.
-    ForgetGate {
-        gate: u64,
-    },
+    ForgetGate { gate: u64 },
     /// The handheld sends a body to the gate.
-    SendUp {
-        hand: u64,
-        gate: u64,
-        body: u64,
-    },
+    SendUp { hand: u64, gate: u64, body: u64 },
     /// The handheld is switched off and on.
-    ForgetHand {
-        hand: u64,
-    },
+    ForgetHand { hand: u64 },
     /// The message sent as the `place`-th is heard; one to all, by the handheld.
-    Hear {
-        hand: u64,
-        place: u64,
-    },
+    Hear { hand: u64, place: u64 },
     /// An invented begin reaches the handheld as from the gate, with this nonce.
-    Begin {
-        gate: u64,
-        hand: u64,
-        kind: u64,
-        node: u64,
-        index: u64,
-    },
+    Begin { gate: u64, hand: u64, anonce: Nonce },
 }
 
 /// The forms of a line, one for each command.
@@ -79,21 +50,12 @@ pub enum Form {
 
 impl Form {
     // The numbers that end a line of this form.
-    fn numbers<const N: usize>(self, rest: &[u8]) -> Result<[u64; N], Malformed>
+    fn numbers<const N: usize>(self, rest: &[u8]) -> Result<[u64; N], Malformed<Form>>
         ensures { MatchResult result (λ ns. parts rest.now ≡ numbers_from 0 N ns)
             (λ e. (e ≡ Malformed.Expected self) × ((ns : List ℕ) → length ns ≡ N → parts rest.now ≢ map Number ns)) }
     {
         numbers(rest).ok_or(Malformed::Expected(self))
     }
-}
-
-/// What is wrong with a line that is no command.
-#[derive(Clone, Copy)]
-pub enum Malformed {
-    /// It begins as no command does.
-    NotACommand,
-    /// It begins as a line of this form, and does not go on so.
-    Expected(Form),
 }
 
 // The words of a script that are not numbers.
@@ -110,42 +72,42 @@ enum Keyword {
     Forgets,
 }
 
-impl Keyword {
-    fn of(word: &[u8]) -> Option<Keyword>
-        ensures { MatchOption result ((k : Keyword) → word.now ≢ spelling k) (λ k. word.now ≡ spelling k) }
-    {
+impl TryFrom<&[u8]> for Keyword {
+    type Error = Malformed<Form>;
+
+    ghost try_from_gives = { λ word r. Spells spelling word.now r };
+
+    fn try_from(word: &[u8]) -> Result<Keyword, Malformed<Form>> {
         match word {
-            b"hand" => Some(Keyword::Hand),
-            b"hears" => Some(Keyword::Hears),
-            b"begins" => Some(Keyword::Begins),
-            b"invites" => Some(Keyword::Invites),
-            b"sends" => Some(Keyword::Sends),
-            b"all" => Some(Keyword::All),
-            b"turns" => Some(Keyword::Turns),
-            b"words" => Some(Keyword::Words),
-            b"forgets" => Some(Keyword::Forgets),
-            _ => None,
+            b"hand" => Ok(Keyword::Hand),
+            b"hears" => Ok(Keyword::Hears),
+            b"begins" => Ok(Keyword::Begins),
+            b"invites" => Ok(Keyword::Invites),
+            b"sends" => Ok(Keyword::Sends),
+            b"all" => Ok(Keyword::All),
+            b"turns" => Ok(Keyword::Turns),
+            b"words" => Ok(Keyword::Words),
+            b"forgets" => Ok(Keyword::Forgets),
+            _ => Err(Malformed::NotACommand),
         }
     }
 }
 
 // The keyword that `line` begins with and what stands after it.
-fn next_keyword(line: &[u8]) -> Option<(Keyword, &[u8])>
-    ensures { MatchOption result ((k : Keyword) (ps : List Part) → parts line.now ≢ Word (spelling k) ∷ ps)
-        (λ p. parts line.now ≡ Word (spelling p.0) ∷ parts p.1.now) }
+fn next_keyword(line: &[u8]) -> Result<(Keyword, &[u8]), Malformed<Form>>
+    ensures { MatchResult result (λ p. parts line.now ≡ Word (spelling p.0) ∷ parts p.1.now)
+        (λ e. (e ≡ Malformed.NotACommand) × ((k : Keyword) (ps : List Part) → parts line.now ≢ Word (spelling k) ∷ ps)) }
 {
-    let (word, rest) = next_word(line)?;
-    let keyword = Keyword::of(word)?;
-    Some((keyword, rest))
+    let (word, rest) = next_word(line).ok_or(Malformed::NotACommand)?;
+    let keyword = Keyword::try_from(word)?;
+    Ok((keyword, rest))
 }
 
 // What gate `gate` is told to do.
-fn of_gate(gate: u64, line: &[u8]) -> Result<Command, Malformed>
+fn of_gate(gate: u64, line: &[u8]) -> Result<Command, Malformed<Form>>
     ensures { Answered (Number gate ∷ parts line.now) result }
 {
-    let Some((keyword, rest)) = next_keyword(line) else {
-        return Err(Malformed::NotACommand);
-    };
+    let (keyword, rest) = next_keyword(line)?;
     match keyword {
         Keyword::Invites => {
             let [hand] = Form::Invite.numbers::<1>(rest)?;
@@ -176,12 +138,10 @@ fn of_gate(gate: u64, line: &[u8]) -> Result<Command, Malformed>
 }
 
 // What handheld `hand` is told to do.
-fn of_hand(hand: u64, line: &[u8]) -> Result<Command, Malformed>
+fn of_hand(hand: u64, line: &[u8]) -> Result<Command, Malformed<Form>>
     ensures { Answered (Word (codes "hand") ∷ Number hand ∷ parts line.now) result }
 {
-    let Some((keyword, rest)) = next_keyword(line) else {
-        return Err(Malformed::NotACommand);
-    };
+    let (keyword, rest) = next_keyword(line)?;
     match keyword {
         Keyword::Sends => {
             let [gate, body] = Form::SendUp.numbers::<2>(rest)?;
@@ -202,20 +162,16 @@ fn of_hand(hand: u64, line: &[u8]) -> Result<Command, Malformed>
 }
 
 // The command that `line` has the words of.
-fn command_of(line: &[u8]) -> Result<Command, Malformed>
+fn command_of(line: &[u8]) -> Result<Command, Malformed<Form>>
     ensures { Answered (parts line.now) result }
 {
     if let Some((gate, rest)) = next_number(line) {
         return of_gate(gate, rest);
     }
-    let Some((keyword, rest)) = next_keyword(line) else {
-        return Err(Malformed::NotACommand);
-    };
+    let (keyword, rest) = next_keyword(line)?;
     match keyword {
         Keyword::Hand => {
-            let Some((hand, rest)) = next_number(rest) else {
-                return Err(Malformed::NotACommand);
-            };
+            let (hand, rest) = next_number(rest).ok_or(Malformed::NotACommand)?;
             of_hand(hand, rest)
         }
         Keyword::Hears => {
@@ -224,13 +180,8 @@ fn command_of(line: &[u8]) -> Result<Command, Malformed>
         }
         Keyword::Begins => {
             let [gate, hand, kind, node, index] = Form::Begin.numbers::<5>(rest)?;
-            Ok(Command::Begin {
-                gate,
-                hand,
-                kind,
-                node,
-                index,
-            })
+            let anonce = Nonce { kind, node, index };
+            Ok(Command::Begin { gate, hand, anonce })
         }
         Keyword::Invites
         | Keyword::Sends
@@ -242,15 +193,11 @@ fn command_of(line: &[u8]) -> Result<Command, Malformed>
 }
 
 /// What a line says: a command, or nothing if it is blank or a comment.
-pub fn parse(line: &[u8]) -> Result<Option<Command>, Malformed>
+pub fn parse(line: &[u8]) -> Result<Option<Command>, Malformed<Form>>
     ensures { Reads line.now result }
 {
-    let Some((word, _)) = next_word(line) else {
-        return Ok(None);
-    };
-    if word[0] == b'#' {
+    if first_word(line).is_none() {
         return Ok(None);
     }
-    let command = command_of(line)?;
-    Ok(Some(command))
+    command_of(line).map(Some)
 }

@@ -2,6 +2,7 @@
 ghost use Rattle.std.specs.Prelude.{◌≡◌, ℕ, ◌+◌, ◌-◌, ◌*◌, ◌^◌, ◌<◌, min, true, false, List, [], ◌∷◌, map, length, drop, MatchOption, ◌≢◌};
 ghost use Rattle.std.specs.Char.{is_ascii_digit};
 ghost use Rattle.script.specs.Line.{Number, Part, number_of, numbers_from, parts, starts_blank, words};
+ghost use Rattle.script.specs.Commands.{quiet};
 
 // `n` with one digit more, if `b` is a digit.
 fn with_digit(n: u64, b: u8) -> Option<u64>
@@ -27,16 +28,24 @@ pub fn number(word: &[u8]) -> Option<u64>
     Some(n)
 }
 
-// Whether a blank stands at `i`: a carriage return is one only at the end of the line.
-fn blank_at(line: &[u8], i: usize) -> bool
-    requires { i < length line.now }
-    ensures { result ≡ starts_blank (drop i line.now) }
+// Whether `line` goes on with a blank: a carriage return is one only at the end.
+fn starts_blank(line: &[u8]) -> bool
+    ensures { result ≡ starts_blank line.now }
 {
-    match line[i] {
-        b' ' | b'\t' => true,
-        b'\r' => i + 1 == line.len(),
-        _ => false,
+    matches!(line, [b' ' | b'\t', ..] | [b'\r'])
+}
+
+// `line` without the blanks that it begins with.
+fn trim_start(mut line: &[u8]) -> &[u8]
+    ensures same { words result.now ≡ words line.now }
+    ensures dark { starts_blank result.now ≡ false }
+{
+    while let [_, rest @ ..] = line
+        && starts_blank(line)
+    {
+        line = rest;
     }
+    line
 }
 
 /// The first word of `line` and what stands after it.
@@ -44,18 +53,26 @@ pub fn next_word(line: &[u8]) -> Option<(&[u8], &[u8])>
     ensures { MatchOption result (words line.now ≡ [])
         (λ p. (words line.now ≡ p.0.now ∷ words p.1.now) × (0 < length p.0.now)) }
 {
-    let mut start = 0;
-    while start < line.len() && blank_at(line, start) {
-        start += 1;
-    }
-    if start == line.len() {
+    let line = trim_start(line);
+    if line.is_empty() {
         return None;
     }
-    let mut end = start + 1;
-    while end < line.len() && !blank_at(line, end) {
-        end += 1;
+    let end = (0..line.len())
+        .find(|&i| starts_blank(&line[i..]))
+        .unwrap_or(line.len());
+    Some(line.split_at(end))
+}
+
+/// The first word of `line` and what stands after it, if the line says something: it is not blank, nor a comment.
+pub fn first_word(line: &[u8]) -> Option<(&[u8], &[u8])>
+    ensures { MatchOption result (quiet (words line.now) ≡ true)
+        (λ p. (quiet (words line.now) ≡ false) × (words line.now ≡ p.0.now ∷ words p.1.now)) }
+{
+    let (word, rest) = next_word(line)?;
+    if word.starts_with(b"#") {
+        return None;
     }
-    Some((&line[start..end], &line[end..]))
+    Some((word, rest))
 }
 
 // The number that `line` begins with and what stands after it.
@@ -80,8 +97,5 @@ pub fn numbers<const N: usize>(line: &[u8]) -> Option<[u64; N]>
         *n = next;
         rest = after;
     }
-    match next_word(rest) {
-        Some(_) => None,
-        None => Some(all),
-    }
+    next_word(rest).is_none().then_some(all)
 }

@@ -1,5 +1,5 @@
 use super::*;
-use frame::Node;
+use frame::{Node, Nonce};
 use std::test::Fail;
 
 macro_rules! read {
@@ -20,7 +20,7 @@ fn commands(rt: HostRuntime) -> Result<(), Fail> {
         b"hand 1 sends 0 7" as Ok(Some(Command::SendUp { hand: 1, gate: 0, body: 7 })),
         b"hand 1 forgets" as Ok(Some(Command::ForgetHand { hand: 1 })),
         b"hears 1 12" as Ok(Some(Command::Hear { hand: 1, place: 12 })),
-        b"begins 0 1 2 3 4" as Ok(Some(Command::Begin { gate: 0, hand: 1, kind: 2, node: 3, index: 4 })),
+        b"begins 0 1 2 3 4" as Ok(Some(Command::Begin { gate: 0, hand: 1, anonce: Nonce { kind: 2, node: 3, index: 4 } })),
     );
     Ok(())
 }
@@ -83,7 +83,7 @@ fn texts(rt: HostRuntime) -> Result<(), Fail> {
         expected.to_string(heap)?.as_str(),
         "line 3: expected GATE invites HAND"
     );
-    let unknown = Complaint {
+    let unknown = Complaint::<Form> {
         line: 4,
         fault: Malformed::NotACommand,
     };

@@ -1,8 +1,9 @@
 // What a play of the script prints.
-ghost use Rattle.std.specs.Prelude.{◌≡◌, Some};
-ghost use Rattle.script.specs.Text.{complaint_text, fault_text, handed_on_text, name_of, row_text, sent_text, usage_of};
+ghost use Rattle.std.specs.Prelude.{Some};
+ghost use Rattle.script.specs.Text.{handed_on_text, name_of, row_text, sent_text, usage_of};
 
-use crate::command::{Form, Malformed};
+use crate::command::Form;
+use crate::fault::LineForm;
 use frame::Node;
 use std::fmt;
 
@@ -21,11 +22,10 @@ impl fmt::Display for Name {
     }
 }
 
-impl Form {
-    // How a line of this form is written: a word in capitals stands for a number.
-    fn usage(self) -> &'static str
-        ensures { result.now ≡ usage_of self }
-    {
+impl LineForm for Form {
+    ghost usage_text = { usage_of };
+
+    fn usage(self) -> &'static str {
         match self {
             Form::Invite => "GATE invites HAND",
             Form::Send => "GATE sends HAND BODY",
@@ -37,20 +37,6 @@ impl Form {
             Form::ForgetHand => "hand HAND forgets",
             Form::Hear => "hears HAND PLACE",
             Form::Begin => "begins GATE HAND KIND NODE INDEX",
-        }
-    }
-}
-
-impl fmt::Display for Malformed {
-    ghost output = { λ fault. Some (fault_text fault) };
-
-    fn fmt<W: fmt::Write>(&self, f: &mut fmt::Formatter<W>) -> fmt::Result {
-        match self {
-            Malformed::NotACommand => write!(f, "not a command"),
-            Malformed::Expected(form) => {
-                let usage = form.usage();
-                write!(f, "expected {usage}")
-            }
         }
     }
 }
@@ -100,21 +86,5 @@ impl fmt::Display for HandedOn<'_> {
         let HandedOn { node, row } = *self;
         let name = Name(node);
         write!(f, "{name} hands on{row}")
-    }
-}
-
-/// What is wrong with a line of the script, by its number.
-#[derive(Clone, Copy)]
-pub struct Complaint {
-    pub line: u64,
-    pub fault: Malformed,
-}
-
-impl fmt::Display for Complaint {
-    ghost output = { λ complaint. Some (complaint_text complaint.line (fault_text complaint.fault)) };
-
-    fn fmt<W: fmt::Write>(&self, f: &mut fmt::Formatter<W>) -> fmt::Result {
-        let Complaint { line, fault } = *self;
-        write!(f, "line {line}: {fault}")
     }
 }

@@ -1,9 +1,6 @@
-//! Bytes compared and covered.
+//! Bytes compared, covered and joined.
 ghost use Rattle.std.specs.Prelude.{◌≡◌, ◌+◌, ◌++◌, length};
-ghost use Rattle.octets.specs.Low.{low_first};
 ghost use Rattle.sealing.specs.Seal.{cover as cover_of, same_bytes};
-
-use octets::put;
 
 /// Whether bytes are the same, in a time that depends on their lengths and not on where they differ.
 pub fn same_bytes(x: &[u8], y: &[u8]) -> bool
@@ -12,62 +9,36 @@ pub fn same_bytes(x: &[u8], y: &[u8]) -> bool
     if x.len() != y.len() {
         return false;
     }
-    same_content(x, y)
-}
-
-fn same_content(x: &[u8], y: &[u8]) -> bool
-    requires { length x.now ≡ length y.now }
-    ensures { result ≡ same_bytes x.now y.now }
-{
     let mut difference = 0;
-    for i in 0..x.len() {
-        difference |= x[i] ^ y[i];
+    for (a, b) in x.iter().zip(y) {
+        difference |= *a ^ *b;
     }
     difference == 0
 }
 
 /// Exclusive or with a keystream, which also takes it off again; what the keystream does not reach stays.
-pub fn cover(text: &mut [u8], stream: &[u8])
+pub fn cover(text: &mut [u8], mut stream: &[u8])
     ensures { text.new ≡ cover_of text.old stream.now }
 {
-    for i in 0..text.len().min(stream.len()) {
-        text[i] ^= stream[i];
+    for byte in text.iter_mut() {
+        let [mask, rest @ ..] = stream else {
+            return;
+        };
+        *byte ^= *mask;
+        stream = rest;
     }
 }
 
-/// `front` and then `back`, for which `out` has just the room.
-pub(crate) fn join(front: &[u8], back: &[u8], out: &mut [u8])
-    requires { length out.old ≡ length front.now + length back.now }
-    ensures { out.new ≡ front.now ++ back.now }
+/// `front` and then `back`.
+#[tactic(auto, using(std::proofs::lemmas::Slice::overwrites))]
+pub(crate) fn joined<const N: usize>(front: &[u8], back: &[u8]) -> [u8; N]
+    requires { length front.now + length back.now ≡ N }
+    ensures { result ≡ front.now ++ back.now }
 {
     let n = front.len();
-    out[..n].copy_from_slice(front);
-    out[n..].copy_from_slice(back);
-}
-
-/// The lowest byte of a number.
-pub(crate) fn low1(n: u64) -> [u8; 1]
-    ensures { result ≡ low_first 1 n }
-{
-    let mut out = [0; 1];
-    put(n, &mut out);
-    out
-}
-
-/// The two lowest bytes of a number.
-pub(crate) fn low2(n: u64) -> [u8; 2]
-    ensures { result ≡ low_first 2 n }
-{
-    let mut out = [0; 2];
-    put(n, &mut out);
-    out
-}
-
-/// The bytes of a number.
-pub(crate) fn low8(n: u64) -> [u8; 8]
-    ensures { result ≡ low_first 8 n }
-{
-    let mut out = [0; 8];
-    put(n, &mut out);
+    let mut out = [0; N];
+    let all = &mut out[..];
+    all[..n].copy_from_slice(front);
+    all[n..].copy_from_slice(back);
     out
 }

@@ -11,6 +11,6 @@ mod vault;
 
 pub use bytes::{cover, same_bytes};
 pub use file::{FileTooShort, FileVault};
-pub use keys::{group_key, nonce, pair_key};
+pub use keys::{PairKeys, group_key, nonce, pair_key};
 pub use messages::{open_body, open_key, seal, tag_is_right};
 pub use vault::Vault;

@@ -22,3 +22,17 @@ pub trait Vault {
     fn entropy(&self, n: u64) -> Option<[u8; 21]>
         ensures { elim result [ Some e ↦ (has_entropy (holds self.now) n ≡ true) × (e ≡ entropy_at (holds self.now) n) | None ↦ has_entropy (holds self.now) n ≡ false ] };
 }
+
+/// `N` bytes of a vault's hash of `label`, `key` and `bytes`, joined.
+pub(crate) fn digest<const N: usize, V: Vault>(
+    vault: &V,
+    label: &[u8],
+    key: &[u8],
+    bytes: &[u8],
+) -> [u8; N]
+    ensures { result ≡ digest_of (V.holds vault.now).hash label.now key.now bytes.now N }
+{
+    let mut out = [0; N];
+    vault.digest(label, key, bytes, &mut out);
+    out
+}

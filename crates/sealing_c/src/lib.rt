@@ -9,7 +9,8 @@ ghost use Rattle.sealing_c.specs.Loads.{load_down};
 
 use frame::{Direction, Message, Nonce, Pair};
 use keyless::Keyless;
-use sealing::{open_body, seal, tag_is_right};
+use octets::Nonces;
+use sealing::{PairKeys, open_body, seal, tag_is_right};
 
 mod keyless;
 
@@ -52,10 +53,16 @@ pub extern "C" fn rattle_seal_load(
 ) -> usize
     ensures { take result out.new ≡ octets_sealed SHAKE256 (record { message = load_down counter body; a = a.now; b = b.now; key = key.now; group = replicate 32 0 }) }
 {
-    let octets = seal(&Keyless, &load_down(counter, body), a, b, key, &[0; 32]);
+    let nonces = Nonces {
+        anonce: *a,
+        snonce: *b,
+    };
+    let keys = PairKeys { nonces, key: *key };
+    let octets = seal(&Keyless, &load_down(counter, body), &keys, &[0; 32]);
     copy(octets.as_slice(), out)
 }
 
+#[tactic(auto, using(std::proofs::lemmas::List::take_at))]
 fn copy(bytes: &[u8], out: &mut [u8]) -> usize
     requires { length bytes.now ≤ length out.old }
     ensures { take result out.new ≡ bytes.now }

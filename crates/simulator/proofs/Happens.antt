@@ -14,10 +14,9 @@ use Rattle.protocol.specs.Rules.{Out, quiet, hand_hears, hand_acts, gate_acts}
 use Rattle.protocol.specs.Calls.{is_tagged, verdict, unless, hand_may, gate_may, hand_does, gate_does, hand_verdict, hand_hears_row, gate_hears_row}
 use Rattle.protocol.specs.World.{Entry, World, gate, hand, put_gate, put_hand, heard_by, is_sent, may_be_heard, hearer, GateActs, HandActs, Hears, happens}
 use Rattle.promise.proofs.Base.{In, in_here, in_more}
-use Rattle.simulator.specs.declared.row.Line.{Line}
-use Rattle.simulator.specs.Model.{entry_of, message_in}
+use Rattle.simulator.specs.declared.log.Line.{Line}
+use Rattle.simulator.specs.Model.{entry_of}
 use Rattle.simulator.specs.Play.{no_entry, is_there, is_from_here, is_absent}
-use Rattle.simulator.proofs.OneCall.{entries_length}
 
 cond_idle : {A : Type 0} (b : Bool) (x y : A) → x ≡ y → cond b x y ≡ y
 cond_idle true x y e = e
@@ -46,11 +45,11 @@ module _ (w : World) where
   -- ---- acts
 
   module _ (g : ℕ) (a : GateAct) where
-    pub gate_acts_lem : (v : World) (n : ℕ) (b : GateAct) → g < length w.gates → n ≡ length w.hands → gate_may n a ≡ true → b ≡ a →
-        v ≡ put_gate g (gate_does g n b (gate g w)) w → (is_absent (GateActs g a) w ≡ false) × (v ≡ happens (GateActs g a) w)
-    gate_acts_lem v n b lt e may is p = (
+    pub gate_acts_lem : (v : World) (n : ℕ) → g < length w.gates → n ≡ length w.hands → gate_may n a ≡ true →
+        v ≡ put_gate g (gate_does g n a (gate g w)) w → (is_absent (GateActs g a) w ≡ false) × (v ≡ happens (GateActs g a) w)
+    gate_acts_lem v n lt e may p = (
       (λ i. not (lt-ltb g (length w.gates) lt i && gate_may (sym e i) a)) ∙ ap not may,
-      p ∙ (λ i. put_gate g (gate_does g (e i) (is i) (gate g w)) w)
+      p ∙ (λ i. put_gate g (gate_does g (e i) a (gate g w)) w)
           ∙ sym (ap (λ (t : Bool). cond t (put_gate g (gate_does g (length w.hands) a (gate g w)) w) w) (lt-ltb g (length w.gates) lt)),
     )
 
@@ -72,11 +71,11 @@ module _ (w : World) where
         )
 
   module _ (h : ℕ) (a : HandAct) where
-    pub hand_acts_lem : (v : World) (n : ℕ) (b : HandAct) → h < length w.hands → n ≡ length w.gates → hand_may n a ≡ true → b ≡ a →
-        v ≡ put_hand h (hand_does n b (hand h w)) w → (is_absent (HandActs h a) w ≡ false) × (v ≡ happens (HandActs h a) w)
-    hand_acts_lem v n b lt e may is p = (
+    pub hand_acts_lem : (v : World) (n : ℕ) → h < length w.hands → n ≡ length w.gates → hand_may n a ≡ true →
+        v ≡ put_hand h (hand_does n a (hand h w)) w → (is_absent (HandActs h a) w ≡ false) × (v ≡ happens (HandActs h a) w)
+    hand_acts_lem v n lt e may p = (
       (λ i. not (lt-ltb h (length w.hands) lt i && hand_may (sym e i) a)) ∙ ap not may,
-      p ∙ (λ i. put_hand h (hand_does (e i) (is i) (hand h w)) w)
+      p ∙ (λ i. put_hand h (hand_does (e i) a (hand h w)) w)
           ∙ sym (ap (λ (t : Bool). cond t (put_hand h (hand_does (length w.gates) a (hand h w)) w) w) (lt-ltb h (length w.hands) lt)),
     )
 
@@ -182,9 +181,7 @@ sent_may m es t = go (is_tagged m) (is_sent m es) t
     go true false t = elim t [ ]
     go false c t = refl
 
-pub may_again : (xs : List Line) (n : ℕ) (l : Line) → n < length xs → l ≡ get_or xs n l → may_be_heard (message_in l.row) (reverse (map entry_of xs)) ≡ true
-may_again xs n l lt e =
-    let es = reverse (map entry_of xs) in
-    let size = entries_length xs in
-    sent_may (message_in l.row) es
-    (subst (λ (x : Entry). In x.message es) (sym (get_or-reverse es n no_entry (omega arith)) ∙ nth_sent xs n l lt e) (in_at es (length es - 1 - n) no_entry (omega arith)))
+pub may_again : (es : List Entry) (n : ℕ) (m : Message) → n < length es → m ≡ (get_or (reverse es) n no_entry).message → may_be_heard m es ≡ true
+may_again es n m lt is =
+    sent_may m es
+    (subst (λ (x : Message). In x es) (ap (λ (x : Entry). x.message) (sym (get_or-reverse es n no_entry lt)) ∙ sym is) (in_at es (length es - 1 - n) no_entry (omega arith)))

@@ -1,5 +1,5 @@
-pub mod Short
 pub mod OneCall
 pub mod Happens
 pub mod Reaching
 pub mod Mute
+pub mod Made

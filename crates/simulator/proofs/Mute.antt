@@ -21,10 +21,10 @@ use Rattle.protocol.specs.Calls.{unless, hand_verdict, gate_verdict, hand_hears_
 use Rattle.protocol.specs.World.{Entry, World, logged, gate, hand, put_gate, put_hand, heard_by, may_be_heard, hearer, Hears, happens}
 use Rattle.script.specs.declared.command.Command.{Command}
 use Rattle.script.specs.declared.command.Command.TheVariants as command
-use Rattle.simulator.specs.declared.row.Line.{Line}
-use Rattle.simulator.specs.declared.row.Played.{Played}
-use Rattle.simulator.specs.declared.row.Unplayed.{Unplayed}
-use Rattle.simulator.specs.declared.row.Unplayed.TheVariants.{Absent, Full, NoMemory}
+use Rattle.simulator.specs.declared.log.Line.{Line}
+use Rattle.simulator.specs.declared.log.Played.{Played}
+use Rattle.simulator.specs.declared.log.Unplayed.{Unplayed}
+use Rattle.simulator.specs.declared.log.Unplayed.TheVariants.{Absent, Full, NoMemory}
 use Rattle.simulator.specs.Model.{added}
 use Rattle.simulator.specs.Play.{sent_at, goes_on, is_answered, may_say, plays, Plays}
 
@@ -133,7 +133,7 @@ module _ (w : World) where
       either : (b : Bool) → (b && is_answered (sent_at n w)) ≡ false → (goes_on (cond b (Some (Hears h (sent_at n w))) None) w).transcript ≡ w.transcript
       either true e = hears_adds_none h (sent_at n w) e
       either false e = refl
-  adds_none (command.Begin g h k n i) e = grind arith
+  adds_none (command.Begin g h a) e = grind arith
 
 -- ---- at most 10,000
 

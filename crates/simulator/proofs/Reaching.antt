@@ -4,9 +4,9 @@ use Rattle.protocol.specs.World.{World, Event}
 use Rattle.promise.specs.Reach.{Reached}
 use Rattle.promise.proofs.Reach.{reached_more}
 use Rattle.script.specs.declared.command.Command.{Command}
-use Rattle.simulator.specs.declared.row.Played.{Played}
-use Rattle.simulator.specs.declared.row.Unplayed.{Unplayed}
-use Rattle.simulator.specs.declared.row.Unplayed.TheVariants.{Absent, Full, NoMemory}
+use Rattle.simulator.specs.declared.log.Played.{Played}
+use Rattle.simulator.specs.declared.log.Unplayed.{Unplayed}
+use Rattle.simulator.specs.declared.log.Unplayed.TheVariants.{Absent, Full, NoMemory}
 use Rattle.simulator.specs.Play.{event_of, goes_on, Plays}
 
 goes_on_lem : (w : World) (e : Option Event) → Reached w → Reached (goes_on e w)

@@ -1,26 +1,16 @@
 -- The world that a network stands for.
-use Rattle.std.specs.Prelude.{◌≡◌, ℕ, List, [], ◌∷◌, ◌++◌, map, reverse, length, Some, None, vec_items, Option, Vec}
-use Rattle.frame.specs.declared.message.Message.{Message}
-use Rattle.frame.specs.Row.{code, padded, message_of}
+use Rattle.std.specs.Prelude.{◌≡◌, ◌<◌, List, [], ◌∷◌, ◌++◌, map, reverse, length, Some, None, vec_items, vec_len, vec_capacity, Option, Vec}
 use Rattle.protocol.specs.World.{Entry, World}
 use Rattle.gateway.specs.declared.gateway.Gateway.{Gateway}
 use Rattle.gateway.specs.State.{state_of as gate_state}
 use Rattle.handset.specs.declared.handset.Handset.{Handset}
 use Rattle.handset.specs.State.{state_of as hand_state}
-use Rattle.simulator.specs.declared.row.Row.{Row}
-use Rattle.simulator.specs.declared.row.Line.{Line}
-use Rattle.simulator.specs.declared.row.Played.{Played}
+use Rattle.simulator.specs.declared.log.Line.{Line}
+use Rattle.simulator.specs.declared.log.Played.{Played}
 use Rattle.simulator.specs.declared.network.Network.{Network}
 
--- numbers that are a message's, n of them and noughts behind
-abbrev pub IsRow : List ℕ → ℕ → Type 0
-IsRow numbers n = (numbers ≡ padded 12 (code (message_of numbers))) × (n ≡ length (code (message_of numbers)))
-
-abbrev pub message_in : Row → Message
-message_in r = message_of r.numbers
-
 abbrev pub entry_of : Line → Entry
-entry_of l = record { node = l.node; message = message_in l.row }
+entry_of l = record { node = l.node; message = l.message }
 
 -- the latest first
 abbrev pub entries : {A : Type 0} → Vec Line A → List Entry
@@ -31,6 +21,10 @@ world_by gs hs sent delivered = record { gates = map gate_state gs; hands = map 
 
 abbrev pub world_of : Network → World
 world_of n = world_by (vec_items n.gates) (vec_items n.hands) (entries n.sent) (entries n.delivered)
+
+-- there is room for one message more, sent and delivered
+abbrev pub HasRoom : Network → Type 0
+HasRoom n = (vec_len n.sent < vec_capacity n.sent) × (vec_len n.delivered < vec_capacity n.delivered)
 
 -- ---- what a step tells
 

@@ -11,9 +11,9 @@ use Rattle.protocol.specs.Calls.{gate_may, hand_may}
 use Rattle.protocol.specs.World.{Entry, World, hearer, Event, GateActs, HandActs, Hears, happens}
 use Rattle.script.specs.declared.command.Command.{Command}
 use Rattle.script.specs.declared.command.Command.TheVariants as command
-use Rattle.simulator.specs.declared.row.Played.{Played}
-use Rattle.simulator.specs.declared.row.Unplayed.{Unplayed}
-use Rattle.simulator.specs.declared.row.Unplayed.TheVariants.{Absent, Full, NoMemory}
+use Rattle.simulator.specs.declared.log.Played.{Played}
+use Rattle.simulator.specs.declared.log.Unplayed.{Unplayed}
+use Rattle.simulator.specs.declared.log.Unplayed.TheVariants.{Absent, Full, NoMemory}
 use Rattle.simulator.specs.Model.{Tells}
 
 -- ---- the event of a command
@@ -36,7 +36,7 @@ event_of (command.ForgetGate g) w = Some (GateActs g ForgetGate)
 event_of (command.SendUp h g b) w = Some (HandActs h (SendUp g b))
 event_of (command.ForgetHand h) w = Some (HandActs h ForgetHand)
 event_of (command.Hear h n) w = cond (nat_lt n (length w.transcript)) (Some (Hears h (sent_at n w))) None
-event_of (command.Begin g h k n i) w = Some (Hears 0 (Begin g h (nonce_of k n i)))
+event_of (command.Begin g h a) w = Some (Hears 0 (Begin g h a))
 
 abbrev pub goes_on : Option Event → World → World
 goes_on None w = w
@@ -102,7 +102,7 @@ may_say (command.ForgetGate g) w = false
 may_say (command.SendUp h g b) w = true
 may_say (command.ForgetHand h) w = false
 may_say (command.Hear h n) w = nat_lt n (length w.transcript) && is_answered (sent_at n w)
-may_say (command.Begin g h k n i) w = true
+may_say (command.Begin g h a) w = true
 
 -- 10,000 messages were sent, and another may be said
 abbrev pub overfull : Command → World → Bool

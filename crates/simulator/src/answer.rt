@@ -1,6 +1,6 @@
 //! What is answered to a line of the script.
-use crate::row::Played;
-use script::Complaint;
+use crate::log::Played;
+use script::{Complaint, Form};
 
 /// What a line came to. Where it is neither `Nothing` nor `Played`, nothing has moved.
 #[derive(Clone, Copy)]
@@ -9,7 +9,7 @@ pub enum Answer {
     Nothing,
     Played(Played),
     /// The line is no command.
-    Complaint(Complaint),
+    Complaint(Complaint<Form>),
     /// The line with this number names a gate or a handheld that is not there.
     Absent { line: u64 },
     /// There is no place for another message.

@@ -1,110 +1,126 @@
 //! What a command does: one event of the world, or none.
-ghost use Rattle.std.specs.Prelude.{◌≡◌, ◌<◌, true, Some, vec_len, vec_capacity};
+ghost use Rattle.std.specs.Prelude.{◌≡◌, ◌<◌, ◌≤◌, length, MatchOption, true, Some};
+ghost use Rattle.protocol.specs.Calls.{gate_may, hand_may};
 ghost use Rattle.protocol.specs.World.{GateActs, HandActs, Hears, may_be_heard};
-ghost use Rattle.simulator.specs.Model.{message_in, world_of};
-ghost use Rattle.simulator.specs.Play.{Goes, event_of, is_from_here};
+ghost use Rattle.simulator.specs.Model.{HasRoom, world_of};
+ghost use Rattle.simulator.specs.Play.{Goes, event_of, is_from_here, sent_at};
 
-use crate::calls::{GateCall, HandCall};
+use crate::log::Played;
+use crate::messages::hearer;
 use crate::network::Network;
-use crate::row::{Played, Row};
-use frame::{Node, Nonce};
+use frame::{Message, Node};
 use protocol::{GateAct, HandAct};
 use script::Command;
 
+/// Whether the handheld that an act is towards is there.
+fn gate_may(hands: usize, act: GateAct) -> bool
+    ensures { result ≡ gate_may hands act }
+{
+    match act {
+        GateAct::Invite { hand } | GateAct::SendDown { hand, .. } | GateAct::Rekey { hand } => {
+            hand < hands as u64
+        }
+        GateAct::Broadcast { .. } | GateAct::Rotate | GateAct::ForgetGate => true,
+    }
+}
+
+/// Whether the gate that an act is towards is there.
+fn hand_may(gates: usize, act: HandAct) -> bool
+    ensures { result ≡ hand_may gates act }
+{
+    match act {
+        HandAct::SendUp { gate, .. } => gate < gates as u64,
+        HandAct::ForgetHand => true,
+    }
+}
+
 impl Network {
     fn gate_does(&mut self, gate: u64, act: GateAct) -> Option<Played>
-        requires sent_room { vec_len self.old.sent < vec_capacity self.old.sent }
+        requires { HasRoom self.old }
         ensures { Goes result (Some (GateActs gate act)) (world_of self.old) (world_of self.new) }
     {
-        match GateCall::of(act, self.hands.len() as u16) {
-            None => None,
-            Some(call) => {
-                if gate < self.gates.len() as u64 {
-                    let played = self.gate_acts(gate as usize, call.kind, call.hand, call.body);
-                    Some(played)
-                } else {
-                    None
-                }
-            }
+        if gate < self.gates.len() as u64 && gate_may(self.hands.len(), act) {
+            Some(self.gate_acts(gate as usize, act))
+        } else {
+            None
         }
     }
 
     fn hand_does(&mut self, hand: u64, act: HandAct) -> Option<Played>
-        requires sent_room { vec_len self.old.sent < vec_capacity self.old.sent }
+        requires { HasRoom self.old }
         ensures { Goes result (Some (HandActs hand act)) (world_of self.old) (world_of self.new) }
     {
-        match HandCall::of(act, self.gates.len() as u8) {
-            None => None,
-            Some(call) => {
-                if hand < self.hands.len() as u64 {
-                    let played = self.hand_acts(hand as usize, call.kind, call.gate, call.body);
-                    Some(played)
-                } else {
-                    None
-                }
-            }
+        if hand < self.hands.len() as u64 && hand_may(self.gates.len(), act) {
+            Some(self.hand_acts(hand as usize, act))
+        } else {
+            None
         }
     }
 
     /// Whether the gate that an invented begin names is there.
-    fn is_from_here(&self, row: &Row) -> bool
-        ensures { result ≡ is_from_here (message_in row.now) (world_of self.now) }
+    fn is_from_here(&self, message: &Message) -> bool
+        ensures { result ≡ is_from_here message.now (world_of self.now) }
     {
-        row.numbers[0] != 0 || row.numbers[1] < self.gates.len() as u64
+        match message {
+            Message::Begin { gate, .. } => *gate < self.gates.len() as u64,
+            Message::Reply { .. }
+            | Message::Take { .. }
+            | Message::Taken { .. }
+            | Message::Renew { .. }
+            | Message::Load { .. }
+            | Message::All { .. } => true,
+        }
     }
 
-    /// The end that the row names hears it; of a frame to all, this handheld.
-    fn hears(&mut self, hand: u64, row: &Row) -> Option<Played>
-        requires may { may_be_heard (message_in row.now) (world_of self.old).transcript ≡ true }
-        requires sent_room { vec_len self.old.sent < vec_capacity self.old.sent }
-        requires delivered_room { vec_len self.old.delivered < vec_capacity self.old.delivered }
-        ensures { Goes result (Some (Hears hand (message_in row.now))) (world_of self.old) (world_of self.new) }
+    /// The end that the message names hears it; of a frame to all, this handheld.
+    #[tactic(auto, using(crate::proofs::Happens::gate_hears_lem, crate::proofs::Happens::hand_hears_lem, crate::proofs::Happens::no_gate_hears, crate::proofs::Happens::no_hand_hears))]
+    fn hears(&mut self, hand: u64, message: &Message) -> Option<Played>
+        requires may { may_be_heard message.now (world_of self.old).transcript ≡ true }
+        requires room { HasRoom self.old }
+        ensures { Goes result (Some (Hears hand message.now)) (world_of self.old) (world_of self.new) }
     {
-        if !self.is_from_here(row) {
+        if !self.is_from_here(message) {
             return None;
         }
-        match row.hearer(hand) {
-            Node::Gate(gate) => {
-                if gate < self.gates.len() as u64 {
-                    let played = self.gate_hears(gate as usize, row);
-                    Some(played)
-                } else {
-                    None
-                }
+        match hearer(hand, message) {
+            Node::Gate(gate) if gate < self.gates.len() as u64 => {
+                Some(self.gate_hears(gate as usize, message))
             }
-            Node::Hand(hand) => {
-                if hand < self.hands.len() as u64 {
-                    let played = self.hand_hears(hand as usize, row);
-                    Some(played)
-                } else {
-                    None
-                }
+            Node::Hand(hand) if hand < self.hands.len() as u64 => {
+                Some(self.hand_hears(hand as usize, message))
             }
+            Node::Gate(_) | Node::Hand(_) => None,
         }
+    }
+
+    /// The message sent as the `place`-th, if there is one.
+    #[tactic(auto, using(crate::proofs::Happens::nth_sent, crate::proofs::OneCall::entries_length))]
+    pub(crate) fn message(&self, place: u64) -> Option<Message>
+        ensures { MatchOption result (length (world_of self.now).transcript ≤ place)
+            (λ m. (place < length (world_of self.now).transcript) × (m ≡ sent_at place (world_of self.now))) }
+    {
+        self.sent.get(place as usize).map(|line| line.message)
     }
 
     /// The message sent as the `place`-th is heard, if there is one.
+    #[tactic(auto, using(crate::proofs::Happens::may_again, crate::proofs::OneCall::entries_length))]
     fn hears_again(&mut self, hand: u64, place: u64) -> Option<Played>
-        requires sent_room { vec_len self.old.sent < vec_capacity self.old.sent }
-        requires delivered_room { vec_len self.old.delivered < vec_capacity self.old.delivered }
+        requires { HasRoom self.old }
         ensures { Goes result (event_of (Command.Hear hand place) (world_of self.old)) (world_of self.old) (world_of self.new) }
     {
-        if place < self.sent.len() as u64 {
-            let row = self.sent[place as usize].row;
-            self.hears(hand, &row)
-        } else {
-            Some(Played {
+        let Some(message) = self.message(place) else {
+            return Some(Played {
                 place: self.sent.len() as u64,
                 sent: None,
                 delivered: None,
-            })
-        }
+            });
+        };
+        self.hears(hand, &message)
     }
 
     /// Plays a command, where there is room for what it says and delivers. None where it names an end that is not there.
     pub(crate) fn step(&mut self, command: Command) -> Option<Played>
-        requires sent_room { vec_len self.old.sent < vec_capacity self.old.sent }
-        requires delivered_room { vec_len self.old.delivered < vec_capacity self.old.delivered }
+        requires { HasRoom self.old }
         ensures { Goes result (event_of command (world_of self.old)) (world_of self.old) (world_of self.new) }
     {
         match command {
@@ -121,15 +137,8 @@ impl Network {
             }
             Command::ForgetHand { hand } => self.hand_does(hand, HandAct::ForgetHand),
             Command::Hear { hand, place } => self.hears_again(hand, place),
-            Command::Begin {
-                gate,
-                hand,
-                kind,
-                node,
-                index,
-            } => {
-                let row = Row::begin(gate, hand, Nonce { kind, node, index });
-                self.hears(0, &row)
+            Command::Begin { gate, hand, anonce } => {
+                self.hears(0, &Message::Begin { gate, hand, anonce })
             }
         }
     }

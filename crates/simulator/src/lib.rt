@@ -3,17 +3,17 @@
 #![tactic(auto)]
 
 mod answer;
-mod calls;
 mod commands;
 mod line;
+mod log;
+mod messages;
 mod network;
 mod play;
-mod row;
 mod simulator;
 mod start;
 mod steps;
 mod text;
 
 pub use answer::Answer;
-pub use row::{Line, Played, Row, Unplayed};
+pub use log::{Line, Played, Unplayed};
 pub use simulator::Simulator;

@@ -5,7 +5,7 @@ ghost use Rattle.simulator.specs.Model.{world_of};
 ghost use Rattle.simulator.specs.Answers.{PlaysLine, answer_of};
 
 use crate::answer::Answer;
-use crate::row::{Played, Unplayed};
+use crate::log::{Played, Unplayed};
 use crate::simulator::Simulator;
 use script::{Complaint, parse};
 
@@ -33,10 +33,8 @@ impl Simulator {
                 line: number,
                 fault,
             }),
-            Ok(read) => match read {
-                None => Answer::Nothing,
-                Some(command) => Answer::of(number, self.play(command)),
-            },
+            Ok(None) => Answer::Nothing,
+            Ok(Some(command)) => Answer::of(number, self.play(command)),
         }
     }
 }

@@ -1,7 +1,7 @@
 //! What is played.
 ghost use Rattle.std.specs.Prelude.{◌≤◌, vec_len};
 
-use crate::row::Line;
+use crate::log::Line;
 use gateway::Gateway;
 use handset::Handset;
 

@@ -1,11 +1,12 @@
 //! A command, played whole or not at all.
-ghost use Rattle.std.specs.Prelude.{◌≡◌, ◌<◌, Ok, Err, vec_len, vec_capacity};
+ghost use Rattle.std.specs.Prelude.{◌≡◌, Ok, Err};
 ghost use Rattle.promise.specs.Reach.{Kept};
-ghost use Rattle.simulator.specs.Model.{world_of};
+ghost use Rattle.simulator.specs.Model.{HasRoom, world_of};
 ghost use Rattle.simulator.specs.Play.{Plays, may_say, overfull};
 
+use crate::log::{Played, Unplayed};
+use crate::messages::is_answered;
 use crate::network::Network;
-use crate::row::{Played, Unplayed};
 use crate::simulator::Simulator;
 use script::Command;
 
@@ -21,9 +22,9 @@ impl Network {
             Command::Rotate { .. } | Command::ForgetGate { .. } | Command::ForgetHand { .. } => {
                 false
             }
-            Command::Hear { hand: _, place } => {
-                place < self.sent.len() as u64 && self.sent[place as usize].row.is_answered()
-            }
+            Command::Hear { place, .. } => self
+                .message(place)
+                .is_some_and(|message| is_answered(&message)),
             Command::Invite { .. }
             | Command::Send { .. }
             | Command::Broadcast { .. }
@@ -33,6 +34,7 @@ impl Network {
         }
     }
 
+    #[tactic(auto, using(crate::proofs::OneCall::entries_length))]
     fn is_full_for(&self, command: Command) -> bool
         ensures { result ≡ overfull command (world_of self.now) }
     {
@@ -42,7 +44,7 @@ impl Network {
     /// Room for one message more, sent and delivered.
     fn make_room(&mut self) -> Result<(), Unplayed>
         ensures world { world_of self.new ≡ world_of self.old }
-        ensures room { elim result [ Ok _ ↦ (vec_len self.new.sent < vec_capacity self.new.sent) × (vec_len self.new.delivered < vec_capacity self.new.delivered) | Err e ↦ e ≡ Unplayed.NoMemory ] }
+        ensures room { elim result [ Ok _ ↦ HasRoom self.new | Err e ↦ e ≡ Unplayed.NoMemory ] }
     {
         if self.sent.reserve(1).is_err() || self.delivered.reserve(1).is_err() {
             return Err(Unplayed::NoMemory);
@@ -57,18 +59,14 @@ impl Network {
         if self.is_full_for(command) {
             return Err(Unplayed::Full);
         }
-        match self.make_room() {
-            Err(e) => Err(e),
-            Ok(()) => match self.step(command) {
-                Some(played) => Ok(played),
-                None => Err(Unplayed::Absent),
-            },
-        }
+        self.make_room()?;
+        self.step(command).ok_or(Unplayed::Absent)
     }
 }
 
 impl Simulator {
     /// Plays a command, and answers exactly what was sent and delivered for it.
+    #[tactic(auto, using(crate::proofs::Mute::few_played, crate::proofs::Reaching::reached_played))]
     pub fn play(&mut self, command: Command) -> Result<Played, Unplayed>
         ensures plays { Plays result command (world_of self.old.network) (world_of self.new.network) }
         ensures kept { Kept (world_of self.new.network) }

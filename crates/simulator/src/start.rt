@@ -1,9 +1,6 @@
 //! A network as it is at first.
-ghost use Rattle.std.specs.Prelude.{◌≡◌, ◌≤◌, true, false, ◌&&◌, map, replicate, IfOk, Some, None, vec_len, nat_le};
-ghost use Rattle.protocol.specs.Held.{new_gate, new_hand};
+ghost use Rattle.std.specs.Prelude.{◌≡◌, ◌≤◌, true, false, ◌&&◌, All, IfOk, Some, None, vec_len, nat_le};
 ghost use Rattle.protocol.specs.World.{start};
-ghost use Rattle.gateway.specs.State.{state_of as gate_state};
-ghost use Rattle.handset.specs.State.{state_of as hand_state};
 ghost use Rattle.simulator.specs.Model.{world_of};
 
 use crate::network::Network;
@@ -18,27 +15,12 @@ const GATES: u64 = 8;
 /// The most handhelds.
 const HANDS: u64 = 32;
 
-/// So many gates, each with so many handhelds.
-fn new_gates(heap: Global, gates: u8, hands: u16) -> Result<Vec<Gateway>, AllocError>
-    requires { hands ≤ 512 }
-    ensures { IfOk result (λ v. (map gate_state v.items ≡ replicate gates (new_gate hands)) × (vec_len v ≡ gates)) }
+/// So many ends, each as it is made.
+fn many<E: Drop, F: Fn() -> E>(heap: Global, count: usize, make: F) -> Result<Vec<E>, AllocError>
+    requires { F.IsAlwaysCallable make }
+    ensures { IfOk result (λ v. (vec_len v ≡ count) × All (λ e. F.post make e) v.items) }
 {
-    let mut ends = Vec::new(heap);
-    for i in 0..gates {
-        ends.push(Gateway::fresh(hands))?;
-    }
-    Ok(ends)
-}
-
-/// So many handhelds, each with so many gates.
-fn new_hands(heap: Global, gates: u8, hands: u16) -> Result<Vec<Handset>, AllocError>
-    ensures { IfOk result (λ v. (map hand_state v.items ≡ replicate hands (new_hand gates)) × (vec_len v ≡ hands)) }
-{
-    let mut ends = Vec::new(heap);
-    for i in 0..hands {
-        ends.push(Handset::fresh(gates))?;
-    }
-    Ok(ends)
+    (0..count).map(|_| make()).collect(heap)
 }
 
 impl Network {
@@ -47,11 +29,9 @@ impl Network {
         requires hands { hands ≤ 32 }
         ensures { IfOk result (λ n. world_of n ≡ start gates hands) }
     {
-        let gates_made = new_gates(heap, gates, hands)?;
-        let hands_made = new_hands(heap, gates, hands)?;
         Ok(Network {
-            gates: gates_made,
-            hands: hands_made,
+            gates: many(heap, gates as usize, || Gateway::fresh(hands))?,
+            hands: many(heap, hands as usize, || Handset::fresh(gates))?,
             sent: Vec::new(heap),
             delivered: Vec::new(heap),
         })

@@ -1,71 +1,34 @@
 //! What is printed of an answer.
 ghost use Rattle.std.specs.Prelude.{Some};
-ghost use Rattle.simulator.specs.Text.{answer_text, delivered_line, played_text, sent_line};
+ghost use Rattle.simulator.specs.Text.{answer_text, played_text};
 
 use crate::answer::Answer;
-use crate::row::{Line, Played};
+use crate::log::Played;
 use script::{HandedOn, Row, Sent};
 use std::fmt;
-
-/// The line of a message that was sent, if one was.
-#[derive(Clone, Copy)]
-struct SentLine {
-    place: u64,
-    sent: Option<Line>,
-}
-
-impl fmt::Display for SentLine {
-    ghost output = { λ l. Some (sent_line l.place l.sent) };
-
-    fn fmt<W: fmt::Write>(&self, f: &mut fmt::Formatter<W>) -> fmt::Result {
-        match &self.sent {
-            None => write!(f, ""),
-            Some(line) => {
-                let sent = Sent {
-                    place: self.place,
-                    row: Row(line.row.numbers()),
-                };
-                write!(f, "{sent}\n")
-            }
-        }
-    }
-}
-
-/// The line of a message that was delivered, if one was.
-#[derive(Clone, Copy)]
-struct DeliveredLine {
-    delivered: Option<Line>,
-}
-
-impl fmt::Display for DeliveredLine {
-    ghost output = { λ l. Some (delivered_line l.delivered) };
-
-    fn fmt<W: fmt::Write>(&self, f: &mut fmt::Formatter<W>) -> fmt::Result {
-        match &self.delivered {
-            None => write!(f, ""),
-            Some(line) => {
-                let handed_on = HandedOn {
-                    node: line.node,
-                    row: Row(line.row.numbers()),
-                };
-                write!(f, "{handed_on}\n")
-            }
-        }
-    }
-}
 
 impl fmt::Display for Played {
     ghost output = { λ p. Some (played_text p) };
 
+    /// A line for the message that was sent and one for the message that was delivered, where there are such.
     fn fmt<W: fmt::Write>(&self, f: &mut fmt::Formatter<W>) -> fmt::Result {
-        let sent = SentLine {
-            place: self.place,
-            sent: self.sent,
-        };
-        let delivered = DeliveredLine {
-            delivered: self.delivered,
-        };
-        write!(f, "{sent}{delivered}")
+        if let Some(line) = &self.sent {
+            let row = line.message.row();
+            let sent = Sent {
+                place: self.place,
+                row: Row(row.as_slice()),
+            };
+            write!(f, "{sent}\n")?;
+        }
+        if let Some(line) = &self.delivered {
+            let row = line.message.row();
+            let handed_on = HandedOn {
+                node: line.node,
+                row: Row(row.as_slice()),
+            };
+            write!(f, "{handed_on}\n")?;
+        }
+        Ok(())
     }
 }
 
@@ -74,7 +37,7 @@ impl fmt::Display for Answer {
 
     fn fmt<W: fmt::Write>(&self, f: &mut fmt::Formatter<W>) -> fmt::Result {
         match *self {
-            Answer::Nothing => write!(f, ""),
+            Answer::Nothing => Ok(()),
             Answer::Played(played) => write!(f, "{played}"),
             Answer::Complaint(complaint) => write!(f, "{complaint}\n"),
             Answer::Absent { line } => write!(f, "line {line}: no such gate or handheld\n"),

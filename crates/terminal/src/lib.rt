@@ -2,9 +2,14 @@
 
 #![tactic(auto)]
 
-mod answers;
+mod end;
 mod gate;
 mod hand;
-mod terminals;
+mod lines;
+mod terminal;
 
-pub use terminals::{GateTerminal, HandTerminal};
+pub use end::End;
+pub use gate::GateTerminal;
+pub use hand::HandTerminal;
+pub use lines::serve;
+pub use terminal::Terminal;

@@ -1,5 +1,5 @@
 -- The words behind a program's name.
-use Rattle.std.specs.Prelude.{◌≡◌, ℕ, cond, ◌⊎◌, List, ◌++◌, Some, None, Ok, Err, codes, decimal, Option, Result, ◌≢◌, nat_le}
+use Rattle.std.specs.Prelude.{◌≡◌, ℕ, cond, ◌⊎◌, List, [], ◌∷◌, ◌++◌, length, Some, None, Ok, Err, codes, decimal, Option, Result, ◌≢◌, nat_le}
 use Rattle.script.specs.Line.{number_of}
 use Rattle.usage.specs.declared.arguments.Argument.{Argument}
 use Rattle.usage.specs.declared.arguments.Argument.TheVariants.{Index, Peers}
@@ -33,24 +33,22 @@ Runs p i n path (Ok a) = (number_for p Index (number_of i) ≡ Ok a.index) × (n
 Runs p i n path (Err e) =
     (number_for p Index (number_of i) ≡ Err e) ⊎ ((k : ℕ) × (number_for p Index (number_of i) ≡ Ok k) × (number_for p Peers (number_of n) ≡ Err e))
 
+abbrev pub BeginsWith : (words : List (List ℕ)) → List ℕ → Type 0
+BeginsWith ws w = (rest : List (List ℕ)) × (ws ≡ w ∷ rest)
+
 -- not a run, but a word about the program
-abbrev pub About : (first : Option (List ℕ)) → Type 0
-About a = (a ≡ Some (codes "--help")) ⊎ (a ≡ Some (codes "--version"))
+abbrev pub About : (words : List (List ℕ)) → Type 0
+About ws = BeginsWith ws (codes "--help") ⊎ BeginsWith ws (codes "--version")
 
--- there is no third word, or a fourth
-abbrev pub NotThreeWords : (first second third fourth : Option (List ℕ)) → Type 0
-NotThreeWords a b c d = (a ≡ None) ⊎ ((b ≡ None) ⊎ ((c ≡ None) ⊎ (d ≢ None)))
+abbrev pub RunsOn : Program → (words : List (List ℕ)) → Result Arguments Misuse → Type 0
+RunsOn p ws r = (i : List ℕ) × (n : List ℕ) × (path : List ℕ) × (ws ≡ i ∷ n ∷ path ∷ []) × Runs p i n path r
 
-abbrev pub RunsOn : Program → (first second third fourth : Option (List ℕ)) → Result Arguments Misuse → Type 0
-RunsOn p a b c d r =
-    (i : List ℕ) × (n : List ℕ) × (path : List ℕ) × (a ≡ Some i) × (b ≡ Some n) × (c ≡ Some path) × (d ≡ None) × Runs p i n path r
-
--- what the first four words ask for
-abbrev pub Asks : Program → (first second third fourth : Option (List ℕ)) → Result Request Misuse → Type 0
-Asks p a b c d (Ok Help) = a ≡ Some (codes "--help")
-Asks p a b c d (Ok Version) = a ≡ Some (codes "--version")
-Asks p a b c d (Ok (Run r)) = (About a → ⊥) × RunsOn p a b c d (Ok r)
-Asks p a b c d (Err e) = (About a → ⊥) × (((e ≡ misuse_of p NotThree) × NotThreeWords a b c d) ⊎ RunsOn p a b c d (Err e))
+-- what the words ask for
+abbrev pub Asks : Program → (words : List (List ℕ)) → Result Request Misuse → Type 0
+Asks p ws (Ok Help) = BeginsWith ws (codes "--help")
+Asks p ws (Ok Version) = BeginsWith ws (codes "--version")
+Asks p ws (Ok (Run r)) = (About ws → ⊥) × RunsOn p ws (Ok r)
+Asks p ws (Err e) = (About ws → ⊥) × (((e ≡ misuse_of p NotThree) × (length ws ≢ 3)) ⊎ RunsOn p ws (Err e))
 
 -- ---- what is told of a misuse
 

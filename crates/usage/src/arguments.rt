@@ -1,13 +1,12 @@
 //! The words behind a program's name.
-ghost use Rattle.std.specs.Prelude.{◌≡◌};
-ghost use Rattle.std.specs.Option.{option_map};
+ghost use Rattle.std.specs.Prelude.{◌≡◌, map};
 ghost use Rattle.script.specs.Line.{number_of};
 ghost use Rattle.usage.specs.Arguments.{Asks, Runs, limit_of, misuse_of, number_for};
 
 use script::number;
 
 /// The programs of the two kinds of end.
-#[derive(Clone, Copy)]
+#[derive(Clone, Copy, Debug)]
 pub enum Program {
     /// `hand S G FILE`: handheld `S` among `G` gates.
     Hand,
@@ -16,7 +15,7 @@ pub enum Program {
 }
 
 /// The arguments that are numbers.
-#[derive(Clone, Copy)]
+#[derive(Clone, Copy, Debug)]
 pub enum Argument {
     /// Which end it is, counted from 0.
     Index,
@@ -41,7 +40,7 @@ pub enum Request<'a> {
 }
 
 /// What is wrong with them.
-#[derive(Clone, Copy)]
+#[derive(Clone, Copy, Debug)]
 pub enum Fault {
     /// They are not three.
     NotThree,
@@ -50,7 +49,7 @@ pub enum Fault {
 }
 
 /// What is wrong with the words behind this program's name.
-#[derive(Clone, Copy)]
+#[derive(Clone, Copy, Debug)]
 pub struct Misuse {
     pub program: Program,
     pub fault: Fault,
@@ -82,9 +81,7 @@ impl Program {
     fn number(self, argument: Argument, word: &str) -> Result<u64, Misuse>
         ensures { result ≡ number_for self argument (number_of word.now) }
     {
-        let Some(n) = number(word.as_bytes()) else {
-            return Err(self.misuse(Fault::NotANumber(argument)));
-        };
+        let n = number(word.as_bytes()).ok_or(self.misuse(Fault::NotANumber(argument)))?;
         if n > self.limit(argument) {
             return Err(self.misuse(Fault::TooLarge(argument)));
         }
@@ -100,28 +97,16 @@ impl Program {
         Ok(Arguments { index, peers, path })
     }
 
-    /// What the words behind the program's name ask for, of which there may be up to four.
-    pub fn request<'a>(
-        self,
-        first: Option<&'a str>,
-        second: Option<&'a str>,
-        third: Option<&'a str>,
-        fourth: Option<&'a str>,
-    ) -> Result<Request<'a>, Misuse>
-        ensures { Asks self (option_map (λ x. x.now) first.entry) (option_map (λ x. x.now) second.entry) (option_map (λ x. x.now) third.entry) (option_map (λ x. x.now) fourth.entry) result }
+    /// What the words behind the program's name ask for.
+    #[tactic(auto, using(crate::proofs::Words::first_word))]
+    pub fn request<'a>(self, words: &[&'a str]) -> Result<Request<'a>, Misuse>
+        ensures { Asks self (map (λ word. word.now) words.entry.now) result }
     {
-        if let Some(word) = first {
-            if word == "--help" {
-                return Ok(Request::Help);
-            }
-            if word == "--version" {
-                return Ok(Request::Version);
-            }
+        match words {
+            ["--help", ..] => Ok(Request::Help),
+            ["--version", ..] => Ok(Request::Version),
+            [index, peers, path] => self.arguments(index, peers, path).map(Request::Run),
+            _ => Err(self.misuse(Fault::NotThree)),
         }
-        let (Some(index), Some(peers), Some(path), None) = (first, second, third, fourth) else {
-            return Err(self.misuse(Fault::NotThree));
-        };
-        let arguments = self.arguments(index, peers, path)?;
-        Ok(Request::Run(arguments))
     }
 }

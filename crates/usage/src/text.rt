@@ -1,8 +1,9 @@
 //! What is told of a program that is called wrongly, and its help.
 ghost use Rattle.std.specs.Prelude.{◌≡◌, Some};
-ghost use Rattle.usage.specs.Arguments.{argument_name, cause_text, misuse_text, usage_text};
+ghost use Rattle.usage.specs.Arguments.{argument_name, misuse_text, usage_text};
 
 use crate::arguments::{Argument, Fault, Misuse, Program};
+use std::error::Error;
 use std::fmt;
 
 /// What `--version` prints behind a program's name.
@@ -99,7 +100,8 @@ input and when it is full, 1 where an argument is wrong.
 ";
 
 impl Program {
-    fn usage(self) -> &'static str
+    /// How the program is called.
+    pub fn usage(self) -> &'static str
         ensures { result.now ≡ usage_text self }
     {
         match self {
@@ -120,40 +122,26 @@ impl Program {
     }
 }
 
-// The first half of what is told.
-#[derive(Clone, Copy)]
-struct Cause {
-    program: Program,
-    fault: Fault,
-}
-
-impl fmt::Display for Cause {
-    ghost output = { λ cause. Some (cause_text cause.program cause.fault) };
-
-    fn fmt<W: fmt::Write>(&self, f: &mut fmt::Formatter<W>) -> fmt::Result {
-        let program = self.program;
-        match self.fault {
-            Fault::NotThree => write!(f, "three words are wanted"),
-            Fault::NotANumber(argument) => {
-                let name = program.name(argument);
-                write!(f, "{name} is not a number")
-            }
-            Fault::TooLarge(argument) => {
-                let name = program.name(argument);
-                let limit = program.limit(argument);
-                write!(f, "{name} is more than {limit}")
-            }
-        }
-    }
-}
+impl Error for Misuse {}
 
 impl fmt::Display for Misuse {
     ghost output = { λ misuse. Some (misuse_text misuse) };
 
     fn fmt<W: fmt::Write>(&self, f: &mut fmt::Formatter<W>) -> fmt::Result {
         let Misuse { program, fault } = *self;
-        let cause = Cause { program, fault };
+        match fault {
+            Fault::NotThree => write!(f, "three words are wanted")?,
+            Fault::NotANumber(argument) => {
+                let name = program.name(argument);
+                write!(f, "{name} is not a number")?
+            }
+            Fault::TooLarge(argument) => {
+                let name = program.name(argument);
+                let limit = program.limit(argument);
+                write!(f, "{name} is more than {limit}")?
+            }
+        }
         let usage = program.usage();
-        write!(f, "{cause}; usage: {usage}")
+        write!(f, "; usage: {usage}")
     }
 }

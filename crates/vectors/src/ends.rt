@@ -1,31 +1,10 @@
 //! The seven cases, played by the real ends: gate 0 with one handheld, handheld 0 with one gate.
-use endpoint::Heard;
+use endpoint::{Effect, Heard};
 use frame::{Direction, Message, Nonce, Pair, ROW};
 use gateway::{Gateway, Post};
 use handset::{Hand, Handset};
+use protocol::{GateAct, HandAct};
 use std::test::Fail;
-
-const INVITE: u8 = 0;
-
-const SEND_DOWN: u8 = 1;
-
-const BROADCAST: u8 = 2;
-
-const ROTATE: u8 = 3;
-
-const REKEY: u8 = 4;
-
-const SEND_UP: u8 = 0;
-
-const FORGET: u8 = 1;
-
-#[derive(Clone, Copy)]
-enum Input {
-    GateActs { kind: u8, body: u64 },
-    HandActs { kind: u8, body: u64 },
-    GateHears(Message),
-    HandHears(Message),
-}
 
 const fn pair(m: u64, n: u64) -> Pair {
     Pair {
@@ -97,68 +76,55 @@ impl Ends {
         }
     }
 
-    /// What is done or heard says and delivers just this.
-    fn expect(
-        &mut self,
-        input: Input,
-        says: Option<Message>,
-        takes: Option<Message>,
-    ) -> Result<(), Fail> {
-        let mut said = [7; ROW];
-        let mut taken = [0; ROW];
-        let mut row = [0; ROW];
-        match input {
-            Input::GateActs { kind, body } => {
-                let _ = self.gate.act(0, 1, kind, 0, body, &mut said);
-            }
-            Input::HandActs { kind, body } => {
-                let _ = self.hand.act(1, 0, kind, 0, body, &mut said);
-            }
-            Input::GateHears(message) => {
-                let len = message.write(&mut row) as usize;
-                let heard = self
-                    .gate
-                    .hear(0, 1, &row[0..len], true, &mut said, &mut taken);
-                check(heard.code == 0)?;
-            }
-            Input::HandHears(message) => {
-                let len = message.write(&mut row) as usize;
-                let heard = self
-                    .hand
-                    .hear(1, 0, &row[0..len], true, &mut said, &mut taken);
-                check(heard.code == 0)?;
-            }
-        }
-        check(said == written(says))?;
-        check(taken == written(takes))
+    /// What the gate does of itself says just this.
+    fn gate_acts(&mut self, act: GateAct, says: Option<Message>) -> Result<(), Fail> {
+        let effect = self.gate.do_act(0, 1, act);
+        check(effect == said(says))
     }
 
-    fn gate_acts(&mut self, kind: u8, body: u64, says: Option<Message>) -> Result<(), Fail> {
-        self.expect(Input::GateActs { kind, body }, says, None)
+    fn hand_acts(&mut self, act: HandAct, says: Option<Message>) -> Result<(), Fail> {
+        let effect = self.hand.do_act(1, act);
+        check(effect == said(says))
     }
 
-    fn hand_acts(&mut self, kind: u8, body: u64, says: Option<Message>) -> Result<(), Fail> {
-        self.expect(Input::HandActs { kind, body }, says, None)
-    }
-
+    /// What the gate hears is not refused, is answered by just this row, and delivers nothing.
     fn gate_hears(&mut self, message: Message, says: Option<Message>) -> Result<(), Fail> {
-        self.expect(Input::GateHears(message), says, None)
+        let (mut said, mut taken) = ([7; ROW], [7; ROW]);
+        let row = message.row();
+        let heard = self
+            .gate
+            .hear(0, 1, row.as_slice(), true, &mut said, &mut taken);
+        check(heard.code == 0 && said == written(says) && taken == written(None))
     }
 
     fn hand_hears(&mut self, message: Message, says: Option<Message>) -> Result<(), Fail> {
-        self.expect(Input::HandHears(message), says, None)
+        self.hand_answers(message, says, None)
     }
 
     /// The handheld hears a frame, which it delivers or not.
     fn delivers(&mut self, frame: Message, delivered: bool) -> Result<(), Fail> {
-        let takes = if delivered { Some(frame) } else { None };
-        self.expect(Input::HandHears(frame), None, takes)
+        self.hand_answers(frame, None, delivered.then_some(frame))
+    }
+
+    /// What the handheld hears is not refused, and just these rows are said and delivered.
+    fn hand_answers(
+        &mut self,
+        message: Message,
+        says: Option<Message>,
+        delivers: Option<Message>,
+    ) -> Result<(), Fail> {
+        let (mut said, mut taken) = ([7; ROW], [7; ROW]);
+        let row = message.row();
+        let heard = self
+            .hand
+            .hear(1, 0, row.as_slice(), true, &mut said, &mut taken);
+        check(heard.code == 0 && said == written(says) && taken == written(delivers))
     }
 
     /// The whole handshake to a pair, under this group key and counter.
     fn meet(&mut self, m: u64, n: u64, group: u64, counter: u64) -> Result<(), Fail> {
         let p = pair(m, n);
-        self.gate_acts(INVITE, 0, Some(begin(m)))?;
+        self.gate_acts(GateAct::Invite { hand: 0 }, Some(begin(m)))?;
         self.hand_hears(begin(m), Some(Message::Reply { pair: p }))?;
         self.gate_hears(Message::Reply { pair: p }, Some(take(group, counter, p)))?;
         self.hand_hears(take(group, counter, p), Some(Message::Taken { pair: p }))?;
@@ -179,12 +145,19 @@ fn written(message: Option<Message>) -> [u64; ROW] {
     row
 }
 
+fn said(says: Option<Message>) -> Effect {
+    Effect {
+        says,
+        delivers: None,
+    }
+}
+
 #[test]
 fn a_load_is_delivered_once() -> Result<(), Fail> {
     let mut ends = Ends::new();
     ends.meet(0, 0, 1, 0)?;
     let frame = load(Direction::Down, 0, 7, pair(0, 0));
-    ends.gate_acts(SEND_DOWN, 7, Some(frame))?;
+    ends.gate_acts(GateAct::SendDown { hand: 0, body: 7 }, Some(frame))?;
     ends.delivers(frame, true)?;
     ends.delivers(frame, false)
 }
@@ -194,16 +167,22 @@ fn b_take_again_installs_nothing() -> Result<(), Fail> {
     let mut ends = Ends::new();
     let p = pair(0, 0);
     ends.meet(0, 0, 1, 0)?;
-    ends.hand_acts(SEND_UP, 7, Some(load(Direction::Up, 0, 7, p)))?;
+    ends.hand_acts(
+        HandAct::SendUp { gate: 0, body: 7 },
+        Some(load(Direction::Up, 0, 7, p)),
+    )?;
     ends.hand_hears(take(1, 0, p), Some(Message::Taken { pair: p }))?;
-    ends.hand_acts(SEND_UP, 8, Some(load(Direction::Up, 1, 8, p)))
+    ends.hand_acts(
+        HandAct::SendUp { gate: 0, body: 8 },
+        Some(load(Direction::Up, 1, 8, p)),
+    )
 }
 
 #[test]
 fn c_an_old_reply_is_nothing() -> Result<(), Fail> {
     let mut ends = Ends::new();
     ends.meet(0, 0, 1, 0)?;
-    ends.gate_acts(INVITE, 0, Some(begin(1)))?;
+    ends.gate_acts(GateAct::Invite { hand: 0 }, Some(begin(1)))?;
     ends.gate_hears(Message::Reply { pair: pair(0, 0) }, None)
 }
 
@@ -211,7 +190,7 @@ fn c_an_old_reply_is_nothing() -> Result<(), Fail> {
 fn d_only_the_second_pair_comes_into_use() -> Result<(), Fail> {
     let mut ends = Ends::new();
     let (p, q) = (pair(0, 0), pair(0, 1));
-    ends.gate_acts(INVITE, 0, Some(begin(0)))?;
+    ends.gate_acts(GateAct::Invite { hand: 0 }, Some(begin(0)))?;
     ends.hand_hears(begin(0), Some(Message::Reply { pair: p }))?;
     ends.hand_hears(begin(0), Some(Message::Reply { pair: q }))?;
     ends.gate_hears(Message::Reply { pair: p }, Some(take(1, 0, p)))?;
@@ -219,14 +198,17 @@ fn d_only_the_second_pair_comes_into_use() -> Result<(), Fail> {
     ends.hand_hears(take(1, 0, p), None)?;
     ends.hand_hears(take(1, 0, q), Some(Message::Taken { pair: q }))?;
     ends.gate_hears(Message::Taken { pair: q }, None)?;
-    ends.gate_acts(SEND_DOWN, 7, Some(load(Direction::Down, 0, 7, q)))
+    ends.gate_acts(
+        GateAct::SendDown { hand: 0, body: 7 },
+        Some(load(Direction::Down, 0, 7, q)),
+    )
 }
 
 #[test]
 fn e_a_handheld_that_forgot_meets_anew() -> Result<(), Fail> {
     let mut ends = Ends::new();
     ends.meet(0, 0, 1, 0)?;
-    ends.hand_acts(FORGET, 0, None)?;
+    ends.hand_acts(HandAct::ForgetHand, None)?;
     ends.hand_hears(take(1, 0, pair(0, 0)), None)?;
     ends.meet(1, 1, 1, 0)
 }
@@ -242,15 +224,15 @@ fn f_frames_to_all() -> Result<(), Fail> {
         pair: p,
     };
     ends.meet(0, 0, 1, 0)?;
-    ends.gate_acts(BROADCAST, 5, Some(all(1, 0, 5)))?;
-    ends.gate_acts(BROADCAST, 5, Some(all(1, 1, 5)))?;
-    ends.gate_acts(BROADCAST, 5, Some(all(1, 2, 5)))?;
+    ends.gate_acts(GateAct::Broadcast { body: 5 }, Some(all(1, 0, 5)))?;
+    ends.gate_acts(GateAct::Broadcast { body: 5 }, Some(all(1, 1, 5)))?;
+    ends.gate_acts(GateAct::Broadcast { body: 5 }, Some(all(1, 2, 5)))?;
     ends.delivers(all(1, 2, 5), true)?;
     ends.delivers(all(1, 0, 5), false)?;
-    ends.gate_acts(ROTATE, 0, None)?;
-    ends.gate_acts(REKEY, 0, Some(renew))?;
+    ends.gate_acts(GateAct::Rotate, None)?;
+    ends.gate_acts(GateAct::Rekey { hand: 0 }, Some(renew))?;
     ends.hand_hears(renew, None)?;
-    ends.gate_acts(BROADCAST, 6, Some(all(2, 0, 6)))?;
+    ends.gate_acts(GateAct::Broadcast { body: 6 }, Some(all(2, 0, 6)))?;
     ends.delivers(all(2, 0, 6), true)
 }
 
@@ -261,6 +243,23 @@ fn g_an_invented_begin_is_not_answered() -> Result<(), Fail> {
     ends.meet(0, 0, 1, 0)?;
     ends.hand_hears(begin(0), Some(Message::Reply { pair: q }))?;
     ends.gate_hears(Message::Reply { pair: q }, None)
+}
+
+/// The same acts by their numbers, written as rows.
+#[test]
+fn acts_by_number(rt: HostRuntime) -> Result<(), Fail> {
+    let mut ends = Ends::new();
+    let mut says = [7; ROW];
+    assert!(rt; ends.gate.act(0, 1, 0, 0, 0, &mut says) == 6);
+    assert!(rt; says == [0; ROW]);
+    assert!(rt; ends.gate.act(0, 1, 2, 0, 5, &mut says) == 5);
+    assert!(rt; says == [6, 0, 1, 0, 5, 0, 0, 0, 0, 0, 0, 0]);
+    assert!(rt; ends.gate.act(0, 1, 3, 0, 0, &mut says) == 0);
+    assert!(rt; ends.gate.act(0, 1, 2, 0, 6, &mut says) == 5);
+    assert!(rt; says == [6, 0, 2, 0, 6, 0, 0, 0, 0, 0, 0, 0]);
+    assert!(rt; ends.hand.act(1, 0, 0, 0, 7, &mut says) == 0);
+    assert!(rt; says == [0; ROW]);
+    Ok(())
 }
 
 /// Refused rows: no message, not for this end, a wrong tag; nothing is written but noughts.

@@ -1,9 +1,10 @@
 //! What a file holds, read.
-ghost use Rattle.std.specs.Prelude.{◌≡◌, ◌+◌, ◌*◌, ◌<◌, ◌≤◌, length, take, drop, Ok, Err, vec_len};
+ghost use Rattle.std.specs.Prelude.{◌≡◌, ◌+◌, ◌*◌, ◌<◌, ◌≤◌, length, drop, Ok, Err, vec_len};
 ghost use Rattle.sealing.specs.File.{gate_file, hand_file, secrets_of};
 
 use super::{FileTooShort, FileVault};
 use crate::vault::Vault;
+use octets::bytes_at;
 use sponge::shake256_parts3;
 
 impl FileVault {
@@ -12,12 +13,8 @@ impl FileVault {
         ensures { elim result [ Ok v ↦ (32 + 32 * hands ≤ vec_len file) × (secrets_of v ≡ gate_file hands file.items) | Err e ↦ (vec_len file < 32 + 32 * hands) × (e.needed ≡ 32 + 32 * hands) × (e.found ≡ vec_len file) ] }
     {
         let peers = hands as usize;
-        let needed = 32 + 32 * peers;
-        let found = file.len();
-        if found < needed {
-            return Err(FileTooShort { needed, found });
-        }
-        let own = secret_at(file.as_slice(), 0);
+        has_bytes(file.as_slice(), 32 + 32 * peers)?;
+        let own = bytes_at(file.as_slice(), 0);
         Ok(FileVault {
             file,
             own,
@@ -31,11 +28,7 @@ impl FileVault {
         ensures { elim result [ Ok v ↦ (32 * gates ≤ vec_len file) × (secrets_of v ≡ hand_file gates file.items) | Err e ↦ (vec_len file < 32 * gates) × (e.needed ≡ 32 * gates) × (e.found ≡ vec_len file) ] }
     {
         let peers = gates as usize;
-        let needed = 32 * peers;
-        let found = file.len();
-        if found < needed {
-            return Err(FileTooShort { needed, found });
-        }
+        has_bytes(file.as_slice(), 32 * peers)?;
         Ok(FileVault {
             file,
             own: [0; 32],
@@ -44,6 +37,7 @@ impl FileVault {
         })
     }
 
+    #[tactic(auto, using(std::proofs::lemmas::Slice::between_to_end))]
     fn all_entropy(&self) -> &[u8]
         ensures { result.now ≡ drop (self.now.first + 32 * self.now.peers) self.now.file.items }
     {
@@ -54,6 +48,7 @@ impl FileVault {
 impl Vault for FileVault {
     ghost holds = { secrets_of };
 
+    #[tactic(auto, unfolding(crate::specs::Secrets::digest))]
     fn digest(&self, label: &[u8], key: &[u8], bytes: &[u8], out: &mut [u8]) {
         shake256_parts3(label, key, bytes, out);
     }
@@ -63,7 +58,7 @@ impl Vault for FileVault {
         if peer >= self.peers {
             return [0; 32];
         }
-        secret_at(self.file.as_slice(), self.first + 32 * peer)
+        bytes_at(self.file.as_slice(), self.first + 32 * peer)
     }
 
     fn own(&self) -> [u8; 32] {
@@ -71,28 +66,18 @@ impl Vault for FileVault {
     }
 
     fn entropy(&self, n: u64) -> Option<[u8; 21]> {
-        let bytes = self.all_entropy();
-        if n >= bytes.len() as u64 / 21 {
-            return None;
-        }
-        Some(entropy_at(bytes, 21 * n as usize))
+        let (nonces, _) = self.all_entropy().as_chunks();
+        nonces.get(n as usize).copied()
     }
 }
 
-fn secret_at(bytes: &[u8], at: usize) -> [u8; 32]
-    requires { at + 32 ≤ length bytes.now }
-    ensures { result ≡ take 32 (drop at bytes.now) }
+/// Whether a file is as long as its secrets take.
+fn has_bytes(file: &[u8], needed: usize) -> Result<(), FileTooShort>
+    ensures { elim result [ Ok _ ↦ needed ≤ length file.now | Err e ↦ (length file.now < needed) × (e.needed ≡ needed) × (e.found ≡ length file.now) ] }
 {
-    let mut out = [0; 32];
-    out.copy_from_slice(&bytes[at..at + 32]);
-    out
-}
-
-fn entropy_at(bytes: &[u8], at: usize) -> [u8; 21]
-    requires { at + 21 ≤ length bytes.now }
-    ensures { result ≡ take 21 (drop at bytes.now) }
-{
-    let mut out = [0; 21];
-    out.copy_from_slice(&bytes[at..at + 21]);
-    out
+    let found = file.len();
+    if found < needed {
+        return Err(FileTooShort { needed, found });
+    }
+    Ok(())
 }

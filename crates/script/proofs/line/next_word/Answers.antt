@@ -1,25 +1,13 @@
-use Rattle.std.proofs.Common.{sym, inl, inr, arith}
-use Rattle.script.proofs.Cuts.{skip, none, begins, grow, ends}
+use Rattle.std.proofs.Common.{◌≢◌, length, sym, arith, rules, tests}
+use Rattle.std.proofs.lemmas.Iterator.{first_from_Range}
+use Rattle.std.proofs.lemmas.Bool.{eqb-false}
+use Rattle.script.proofs.Cuts.{Ends, IsBlankAt, IsDarkAt, one_word}
 use Rattle.script.proofs.line.next_word.Goals as goal
-use Rattle.script.proofs.line.next_word.Goals.{then-loop-start-test+else-blank_at, else-loop-start-test, then-loop-end-test+else-not-blank_at, else-loop-end-test}
-
-pub loop-start-preserved : goal.loop-start-preserved
-loop-start-preserved c = (omega arith, skip c.args.line.now c.loop-start.start c.loop-start-test.true (sym c.if-blank_at.ensures) c.loop-start.invariant.1)
-
-pub returns-then-start-line : goal.returns-then-start-line
-returns-then-start-line c = none c.args.line.now c.loop-start.start (omega arith) c.loop-start.invariant.1
-
-pub loop-end-init : goal.loop-end-init
-loop-end-init c =
-    elim c.loop-start-test.branch [
-      | then-loop-start-test+else-blank_at w ↦ (omega arith, omega arith, begins c.args.line.now c.loop-start.start w.loop-start-test.true (sym w.if-blank_at.ensures) c.loop-start.invariant.1)
-      | else-loop-start-test w ↦ absurd (c.if-start-line.false (omega (arith, w.loop-start-test.false)))
-    ]
-
-pub loop-end-preserved : goal.loop-end-preserved
-loop-end-preserved c = (omega arith, omega arith, grow c.args.line.now c.loop-end.end c.loop-start.start c.loop-end.invariant.2 (omega arith) c.loop-end-test.true (sym c.if-not-blank_at.ensures))
 
 pub returns : goal.returns
 returns c =
-    ends c.args.line.now c.loop-end.end c.loop-start.start c.loop-end.invariant.2 c.loop-end.invariant.0 c.loop-end.invariant.1
-    (elim c.loop-end-test.branch [ then-loop-end-test+else-not-blank_at w ↦ inr (w.loop-end-test.true, sym w.if-not-blank_at.ensures) | else-loop-end-test w ↦ inl w.loop-end-test.false ])
+    let l = c.trim_start-line.result.now in
+    let some : length l ≢ 0 = eqb-false (length l) 0 (sym c.if-is_empty.ensures) in
+    let ends : Ends l c.find.result = first_from_Range _ _ _ _ (IsBlankAt l) (IsDarkAt l) c.find.ensures.ran (λ x q k. search (rules, tests)) (λ x q k. search (rules, tests)) in
+    let word = one_word l (omega arith) c.trim_start-line.ensures.dark c.find.result ends in
+    search rules

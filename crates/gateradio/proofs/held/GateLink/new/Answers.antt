@@ -15,4 +15,4 @@ returns g c =
     sym (many_of c.new.result) ∙ ap (λ (y : GateState). length y.peers) c.new.ensures ∙ length-replicate c.args.hands new_hand_peer in
     let keys = take_new c.new.result.many 512 no_hand_keys (omega arith) ∙ ap (λ (n : ℕ). replicate n no_hand_keys) many in
     let Ring : List ℕ → List HandKeys → GateRing = λ q ks. record { group = q; peers = ks } in
-    (few, c.new.ensures, ap (λ (ks : List HandKeys). Ring c.group_key-group.result ks) keys ∙ ap (λ (q : List ℕ). Ring q (replicate c.args.hands no_hand_keys)) c.group_key-group.ensures)
+    (few, c.new.ensures, ap (λ (ks : List HandKeys). Ring c.group_key.result ks) keys ∙ ap (λ (q : List ℕ). Ring q (replicate c.args.hands no_hand_keys)) c.group_key.ensures)

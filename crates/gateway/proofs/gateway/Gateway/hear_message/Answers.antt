@@ -1,12 +1,26 @@
-use Rattle.std.proofs.Common.{◌≡◌, true, sym, ap, ◌∙◌}
-use Rattle.frame.specs.declared.message.Message.{Message}
-use Rattle.frame.specs.Row.{code, is_small}
-use Rattle.frame.proofs.Small.{small_first, small_rest}
+use Rattle.std.proofs.Common.{rules}
+use Rattle.protocol.specs.Rules.{gate_reply, gate_taken, gate_load}
+use Rattle.endpoint.proofs.Reading.{small_load}
 use Rattle.gateway.proofs.gateway.Gateway.hear_message.Goals as goal
 
--- the message's numbers are small, whatever it is matched as
-seen_as : (m n : Message) → m ≡ n → is_small (code m) ≡ true → is_small (code n) ≡ true
-seen_as m n e h = ap (λ (x : Message). is_small (code x)) (sym e) ∙ h
+pub at-requires-in-Load-Up-default-default-default-clause-callable : goal.at-requires-in-Load-Up-default-default-default-clause-callable
+at-requires-in-Load-Up-default-default-default-clause-callable c =
+    let small = small_load c.args.message c.requires _ _ _ _ c.in-Load-Up-default-default-default.is in
+    λ x bounded. search rules
 
-pub at-requires-in-Up : goal.at-requires-in-Up
-at-requires-in-Up c = small_first _ _ (small_rest _ _ (small_rest _ _ (seen_as _ _ c.in-Load.is c.requires)))
+pub returns-in-Reply : goal.returns-in-Reply
+returns-in-Reply c =
+    let y = c.args.self.now in
+    let replied = c.at.ensures (gate_reply y.group y.counter c.in-Reply.pair) (λ x y e bounded step. search rules) in
+    search rules
+
+pub returns-in-Taken : goal.returns-in-Taken
+returns-in-Taken c =
+    let taken = c.at-in-Taken.ensures (gate_taken c.in-Taken.pair) (λ x y e bounded step. search rules) in
+    search rules
+
+pub returns-in-Load-Up-default-default-default : goal.returns-in-Load-Up-default-default-default
+returns-in-Load-Up-default-default-default c =
+    let m = c.in-Load-Up-default-default-default in
+    let loaded = c.at-in-Load-Up-default-default-default.ensures (gate_load m.counter m.body m.pair) (λ x y e bounded step. search rules) in
+    search rules

@@ -19,5 +19,5 @@ returns g c =
     let out : out_of c.do_act-effect.result (state_of after) ≡ hand_does (length y.peers) c.args.act y =
     c.do_act-effect.ensures ∙ ap (λ (n : ℕ). hand_does n c.args.act y) (sym (many_of l.end)) in
     let many = many_kept l.end after (ap (λ (o : Out HandState). length o.held.peers) out ∙ hand_does_size y (length y.peers) c.args.act) in
-    heard_by_lem (g.V.Vault.holds c.args.vault.now).hash hand_seals None c.do_act-effect.result (hand_does (length y.peers) c.args.act y) (state_of after) (ring_of l) (take after.many l.keys) c.say.result
-    refl out c.say.ensures (ap (λ (n : ℕ). take n l.keys) many)
+    heard_by_lem (g.V.Vault.holds c.args.vault.now).hash hand_seals None c.do_act-effect.result (hand_does (length y.peers) c.args.act y) (state_of after) (ring_of l) (take after.many l.keys) c.sealed.result
+    refl out c.sealed.ensures.says c.sealed.ensures.delivers (ap (λ (n : ℕ). take n l.keys) many)

@@ -1,12 +1,11 @@
-use Rattle.std.proofs.Common.{ℕ, ◌*◌, List, length, take, drop, ap, ◌∙◌, arith, le-leb}
-use borrow.Author.Tests.{lt-leb}
+use Rattle.std.proofs.Common.{◌+◌, ◌*◌, ◌/◌, ℕ, List, length, drop, sym, ap, ◌∙◌, subst}
+use Rattle.std.specs.Simd.{first_chunks}
+use Rattle.sealing.proofs.Chunks.{Nth, nth_chunk}
 use Rattle.sealing.proofs.file.read.FileVaultVault.entropy.Goals as goal
 
-pub returns-then-n-bytes : goal.returns-then-n-bytes
-returns-then-n-bytes c = lt-leb _ _ (omega (arith, ap length c.all_entropy-bytes.ensures))
-
 pub returns : goal.returns
-returns c = (
-  le-leb _ _ (omega (arith, ap length c.all_entropy-bytes.ensures)),
-  c.entropy_at.ensures ∙ ap (λ (x : List ℕ). take 21 (drop (21 * c.args.n) x)) c.all_entropy-bytes.ensures,
-)
+returns c =
+    let x : List ℕ = drop (c.args.self.now.first + 32 * c.args.self.now.peers) c.args.self.now.file.items in
+    let chunks = c.as_chunks.ensures.front ∙ ap (λ (y : List ℕ). first_chunks 21 (length y / 21) y) c.all_entropy.ensures in
+    subst (Nth x c.args.n) (sym c.copied.ensures)
+    (nth_chunk x c.args.n c.as_chunks.result.0.now c.get.result chunks c.get.ensures.lookup.0 c.get.ensures.lookup.1)

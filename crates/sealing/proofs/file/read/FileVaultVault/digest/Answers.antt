@@ -1,7 +1,0 @@
-use Rattle.std.proofs.Common.{rules}
-use Rattle.sealing.specs.Secrets.{digest}
-use Rattle.sealing.proofs.file.read.FileVaultVault.digest.Goals as goal
-
-pub returns : goal.returns
-unfolding digest
-returns c = search rules
