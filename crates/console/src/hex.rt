@@ -27,17 +27,21 @@ fn byte(high: u8, low: u8) -> Option<u8>
     Some(high * 16 + low)
 }
 
-/// The bytes that hex digits write, if these are no more than the longest message has.
+/// The bytes that hex digits write, if these are no more than the longest message has. A longer run, or
+/// an odd one, is refused by its length alone.
 pub fn from_hex(digits: &[u8]) -> Option<Octets>
     ensures { result ≡ message_bytes digits.now }
 {
+    if digits.len() % 2 == 1 || digits.len() > 280 {
+        return None;
+    }
     let mut octets = Octets::new();
     let mut rest = digits;
     while let [high, low, after @ ..] = rest {
         octets.push(byte(*high, *low)?)?;
         rest = after;
     }
-    rest.is_empty().then_some(octets)
+    Some(octets)
 }
 
 /// Bytes, to be written as hex digits in lower case.

@@ -1,8 +1,8 @@
 -- The steps of cutting a line into words.
-use Rattle.std.proofs.Common.{◌≡◌, ℕ, zero, suc, ◌+◌, ◌<◌, ◌≤◌, true, false, cond, List, [], ◌∷◌, ◌++◌, length, get_or, take, drop, Some, None, Option, MatchOption, unwrap_or, sym, refl, ap, ◌∙◌, arith, add-one}
-use Rattle.std.proofs.lemmas.List.{drop_more, at_drop_more, at_drop_all, length-take-le, take_more, take_rest}
+use Rattle.std.proofs.Common.{◌≡◌, ℕ, zero, suc, ◌+◌, ◌<◌, ◌≤◌, Bool, true, false, cond, ◌&&◌, ◌||◌, eqb, List, [], ◌∷◌, ◌++◌, length, get_or, take, drop, Some, None, Option, MatchOption, unwrap_or, sym, refl, ap, ◌∙◌, arith, add-one}
+use Rattle.std.proofs.lemmas.List.{drop_more, length-drop, at_drop_more, at_drop_all, length-take-le, take_more}
 use Rattle.std.proofs.lemmas.Bool.{false≢true}
-use Rattle.std.specs.List.{between}
+use Rattle.std.proofs.lemmas.Bool.Decides.{nat_tests}
 use Rattle.script.specs.Line.{starts_blank, word_then, words_after, words}
 
 -- a word of one byte or more
@@ -10,20 +10,26 @@ pub then_some : (w : List ℕ) (ws : List (List ℕ)) → 0 < length w → word_
 then_some [] ws h = absurd (omega arith)
 then_some (b ∷ bs) ws h = refl
 
+-- a blank at the byte i of the line l
+pub blank_here : (l : List ℕ) (i : ℕ) → i < length l → starts_blank (drop i l) ≡ (eqb (get_or l i 0) 32 || (eqb (get_or l i 0) 9 || (eqb (get_or l i 0) 13 && eqb (i + 1) (length l))))
+blank_here l i h =
+    let last : eqb (length (drop (i + 1) l)) 0 ≡ eqb (i + 1) (length l) = grind (arith, nat_tests, length-drop (i + 1) l) in
+    at_drop_more starts_blank l i 0 h ∙ ap (λ (t : Bool). eqb (get_or l i 0) 32 || (eqb (get_or l i 0) 9 || (eqb (get_or l i 0) 13 && t))) last
+
 abbrev pub IsBlankAt : List ℕ → ℕ → Type 0
-IsBlankAt l k = starts_blank (between k (length l) l) ≡ true
+IsBlankAt l k = starts_blank (drop k l) ≡ true
 
 abbrev pub IsDarkAt : List ℕ → ℕ → Type 0
-IsDarkAt l k = starts_blank (between k (length l) l) ≡ false
+IsDarkAt l k = starts_blank (drop k l) ≡ false
 
 -- where the first blank stands, if there is one
 abbrev pub Ends : List ℕ → Option ℕ → Type 0
 Ends l o = MatchOption o ((k : ℕ) → 0 ≤ k → k < length l → IsDarkAt l k) (λ i. (0 ≤ i) × (i < length l) × IsBlankAt l i × ((k : ℕ) → 0 ≤ k → k < i → IsDarkAt l k))
 
 module _ (l : List ℕ) where
-  step : (w : List ℕ) (t : _) (i : ℕ) → i < length l → starts_blank (between i (length l) l) ≡ t → words_after w (drop i l) ≡ cond t (word_then w (words (drop (i + 1) l))) (words_after (w ++ get_or l i 0 ∷ []) (drop (i + 1) l))
+  step : (w : List ℕ) (t : _) (i : ℕ) → i < length l → starts_blank (drop i l) ≡ t → words_after w (drop i l) ≡ cond t (word_then w (words (drop (i + 1) l))) (words_after (w ++ get_or l i 0 ∷ []) (drop (i + 1) l))
   step w t i h e =
-      let here : starts_blank (get_or l i 0 ∷ drop (i + 1) l) ≡ t = ap starts_blank (sym (drop_more l i 0 h) ∙ sym (take_rest l i)) ∙ e in
+      let here : starts_blank (get_or l i 0 ∷ drop (i + 1) l) ≡ t = ap starts_blank (sym (drop_more l i 0 h)) ∙ e in
       at_drop_more (words_after w) l i 0 h ∙ rw here refl
 
   -- none of the first k bytes is a blank
@@ -48,5 +54,5 @@ module _ (l : List ℕ) where
         word_to (length l) some (omega arith) word (at_drop_all (words_after w) l (length l) (omega arith) ∙ sym (at_drop_all (λ r. word_then w (words r)) l (length l) (omega arith)))
     one_word (Some i) (f, b, blank, word) =
         let w : List ℕ = take i l in
-        let past : 0 ≡ i → ⊥ = λ e. false≢true (sym dark ∙ ap starts_blank (sym (take_rest l 0)) ∙ ap (λ (k : ℕ). starts_blank (between k (length l) l)) e ∙ blank) in
+        let past : 0 ≡ i → ⊥ = λ e. false≢true (sym dark ∙ ap (λ (k : ℕ). starts_blank (drop k l)) e ∙ blank) in
         word_to i (omega arith) (omega arith) word (step w true i b blank ∙ ap (word_then w) (sym (step [] true i b blank)))

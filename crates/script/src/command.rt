@@ -4,7 +4,7 @@ ghost use Rattle.script.specs.Line.{Number, Part, Word, numbers_from, parts};
 ghost use Rattle.script.specs.Commands.{Answered, Reads, spelling};
 ghost use Rattle.script.specs.Reading.{Spells};
 
-use crate::fault::Malformed;
+pub use crate::fault::Malformed;
 use crate::line::{first_word, next_number, next_word, numbers};
 use frame::Nonce;
 

@@ -35,6 +35,18 @@ fn starts_blank(line: &[u8]) -> bool
     matches!(line, [b' ' | b'\t', ..] | [b'\r'])
 }
 
+// Whether a blank stands at `i`.
+fn blank_at(line: &[u8], i: usize) -> bool
+    requires { i < length line.now }
+    ensures { result ≡ starts_blank (drop i line.now) }
+{
+    match line[i] {
+        b' ' | b'\t' => true,
+        b'\r' => i + 1 == line.len(),
+        _ => false,
+    }
+}
+
 // `line` without the blanks that it begins with.
 fn trim_start(mut line: &[u8]) -> &[u8]
     ensures same { words result.now ≡ words line.now }
@@ -58,7 +70,7 @@ pub fn next_word(line: &[u8]) -> Option<(&[u8], &[u8])>
         return None;
     }
     let end = (0..line.len())
-        .find(|&i| starts_blank(&line[i..]))
+        .find(|&i| blank_at(line, i))
         .unwrap_or(line.len());
     Some(line.split_at(end))
 }

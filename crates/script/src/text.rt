@@ -3,6 +3,7 @@ ghost use Rattle.std.specs.Prelude.{Some};
 ghost use Rattle.script.specs.Text.{handed_on_text, name_of, row_text, sent_text, usage_of};
 
 use crate::command::Form;
+pub use crate::fault::Complaint;
 use crate::fault::LineForm;
 use frame::Node;
 use std::fmt;
