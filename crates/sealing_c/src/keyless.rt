@@ -12,6 +12,7 @@ impl Vault for Keyless {
     ghost holds = { λ _. no_secrets };
 
     #[tactic(auto, unfolding(sealing::specs::Secrets::digest))]
+    #[inline(always)]
     fn digest(&self, label: &[u8], key: &[u8], bytes: &[u8], out: &mut [u8]) {
         shake256_parts3(label, key, bytes, out);
     }

@@ -19,20 +19,23 @@ fn lane(bytes: &[u8; 8]) -> u64
 }
 
 #[tactic(auto, using(crate::proofs::Lanes::xor_block_is))]
-fn xor(lanes: &mut State, block: &Block)
-    ensures { lanes.new ≡ xor_block 136 block.now lanes.old }
+fn xor(block: &Block, mut lanes: State) -> State
+    ensures { result ≡ xor_block 136 block.now lanes }
 {
     let (words, _) = block.as_chunks::<8>();
     for (i, word) in words.iter().enumerate() {
         lanes[i] ^= lane(word);
     }
+    lanes
 }
 
 #[tactic(auto, unfolding(crate::specs::Sponge::absorb_block))]
 pub(crate) fn absorb(state: &mut State, block: &Block)
     ensures { state.new ≡ absorb_block 136 block.now state.old }
 {
-    xor(state, block);
+    // by value: lanes that are written in place first are stored and read again
+    let mixed = xor(block, *state);
+    *state = mixed;
     keccak_f(state);
 }
 

@@ -20,6 +20,7 @@ pub fn shake256(input: &[u8], out: &mut [u8])
 }
 
 /// Fills `out` with the first bytes of SHAKE256 of `label`, `key` and `bytes`, joined.
+#[inline(always)]
 pub fn shake256_parts3(label: &[u8], key: &[u8], bytes: &[u8], out: &mut [u8])
     ensures { out.new ≡ SHAKE256 (label.now ++ (key.now ++ bytes.now)) (length out.old) }
 {
@@ -27,6 +28,7 @@ pub fn shake256_parts3(label: &[u8], key: &[u8], bytes: &[u8], out: &mut [u8])
 }
 
 /// Fills `out` with the first bytes of SHAKE256 of `parts`, joined.
+#[inline(always)]
 pub fn shake256_parts(parts: &[&[u8]], out: &mut [u8])
     ensures { out.new ≡ SHAKE256 (flat_map (λ part. part.now) parts.now) (length out.old) }
 {

@@ -41,6 +41,7 @@ impl Sponge {
     }
 
     /// Takes in `part`, behind what was absorbed before.
+    #[inline(always)]
     pub fn absorb(&mut self, part: &[u8])
         ensures { Absorbs self.old part.now self.new }
     {
@@ -73,6 +74,7 @@ impl Sponge {
         self.filled = 0;
     }
 
+    #[inline(always)]
     fn start_block(&mut self, tail: &[u8])
         requires { length self.old.waiting + length tail.now < 136 }
         ensures { Absorbs self.old tail.now self.new }

@@ -49,6 +49,7 @@ impl Vault for FileVault {
     ghost holds = { secrets_of };
 
     #[tactic(auto, unfolding(crate::specs::Secrets::digest))]
+    #[inline(always)]
     fn digest(&self, label: &[u8], key: &[u8], bytes: &[u8], out: &mut [u8]) {
         shake256_parts3(label, key, bytes, out);
     }
