@@ -3,7 +3,7 @@ use Rattle.std.proofs.Common.{◌≡◌, ℕ, zero, suc, ◌<◌, Bool, true, fa
 use Rattle.frame.specs.declared.message.Message.{Message}
 use Rattle.frame.specs.declared.message.Message.TheVariants.{Begin, Reply, Take, Taken, Renew, Load, All}
 use Rattle.frame.specs.declared.message.Refusal.TheVariants.{NoRow}
-use Rattle.frame.specs.Row.{code, place, nonce_row, nonce_at}
+use Rattle.frame.specs.Row.{code, padded, place, nonce_row, nonce_at}
 use Rattle.frame.proofs.Small.{and_left, and_right}
 use Rattle.octets.specs.declared.parts.Cut.{Cut}
 use Rattle.octets.specs.Low.{low_first, from_low}
@@ -71,6 +71,16 @@ opened_is (Taken p) y row e = ap (opened y) e
 opened_is (Renew r n c p) y row e = ap (opened y) e
 opened_is (Load d c x p) y row e = ap (opened y) e
 opened_is (All g n c x) y row e = ap (opened y) e
+
+-- the same in twelve places
+pub padded_opened_is : (m : Message) (y : ℕ) (row : List ℕ) → row ≡ padded 12 (code (blank m)) → opened y row ≡ padded 12 (code (with_body y m))
+padded_opened_is (Begin g h n) y row e = ap (opened y) e
+padded_opened_is (Reply p) y row e = ap (opened y) e
+padded_opened_is (Take n c p) y row e = ap (opened y) e
+padded_opened_is (Taken p) y row e = ap (opened y) e
+padded_opened_is (Renew r n c p) y row e = ap (opened y) e
+padded_opened_is (Load d c x p) y row e = ap (opened y) e
+padded_opened_is (All g n c x) y row e = ap (opened y) e
 
 -- ---- cut, then written
 

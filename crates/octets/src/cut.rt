@@ -1,12 +1,13 @@
 //! Bytes to the parts of a message.
 ghost use Rattle.std.specs.Prelude.{◌≡◌};
+ghost use Rattle.frame.specs.Row.{padded};
 ghost use Rattle.octets.specs.Layout.{nonce_of};
 ghost use Rattle.octets.specs.Cutting.{cut, cut_as, opened, Within};
 
 use crate::numbers::number_at;
 use crate::parts::{Cut, Nonces};
 use crate::reader::Reader;
-use frame::{Nonce, Refusal, Row};
+use frame::{Nonce, ROW, Refusal, Row};
 
 impl Cut {
     /// The parts of a message. What is of no kind, or not as long as its kind, is no row.
@@ -34,6 +35,19 @@ impl Cut {
             [6, ..] => self.row.with(4, body),
             _ => self.row,
         }
+    }
+
+    /// The twelve places of the row with its body opened, also where the row ends before its body's place.
+    pub fn open_padded(&self, body: u64) -> [u64; ROW]
+        ensures { result ≡ opened body (padded 12 self.now.row) }
+    {
+        let mut places = self.row.padded();
+        match places[0] {
+            5 => places[3] = body,
+            6 => places[4] = body,
+            _ => {}
+        }
+        places
     }
 }
 

@@ -1,11 +1,11 @@
 //! Bytes and messages are two forms of one thing.
 ghost use Rattle.std.specs.Prelude.{◌≡◌, Ok};
-ghost use Rattle.frame.specs.Row.{code};
+ghost use Rattle.frame.specs.Row.{code, padded};
 ghost use Rattle.octets.specs.Laws.{Fits, blank, with_body, parts_of, Again};
 
 use crate::buffer::Octets;
 use crate::parts::{Cut, Nonces};
-use frame::{Message, Refusal, Row};
+use frame::{Message, ROW, Refusal, Row};
 
 /// Cutting what was written gives back its parts, if its numbers fit their places and its nonces are those of
 /// their bytes.
@@ -38,4 +38,12 @@ pub fn open_gives_message(cut: &Cut, message: &Message, body: u64) -> Row
     ensures { cut.now.row ≡ code (blank message.now) → result ≡ code (with_body body message.now) }
 {
     cut.open(body)
+}
+
+/// So it is of a row that has only noughts behind the message's numbers.
+#[tactic(auto, using(crate::proofs::RoundTrip::padded_opened_is))]
+pub fn open_padded_gives_message(cut: &Cut, message: &Message, body: u64) -> [u64; ROW]
+    ensures { padded 12 cut.now.row ≡ padded 12 (code (blank message.now)) → result ≡ padded 12 (code (with_body body message.now)) }
+{
+    cut.open_padded(body)
 }
