@@ -17,7 +17,8 @@ fn main(rt: HostRuntime) -> ExitCode {
 }
 
 fn run(rt: &HostRuntime) -> anyhow::Result<()> {
-    let words: Vec<String> = env::args(rt)?.skip(1).collect(rt.alloc())?;
+    // A third word tells that there are too many.
+    let words: Vec<String> = env::args(rt)?.skip(1).take(3).collect(rt.alloc())?;
     let words: Vec<&str> = words.iter().map(String::as_str).collect(rt.alloc())?;
     match words.as_slice() {
         ["--help", ..] => print!(rt; "{DECK_HELP}")?,

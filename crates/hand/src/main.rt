@@ -15,7 +15,8 @@ fn main(rt: HostRuntime) -> ExitCode {
 }
 
 fn run(rt: &HostRuntime) -> anyhow::Result<()> {
-    let words: Vec<String> = env::args(rt)?.skip(1).collect(rt.alloc())?;
+    // A fourth word tells that there are too many.
+    let words: Vec<String> = env::args(rt)?.skip(1).take(4).collect(rt.alloc())?;
     let words: Vec<&str> = words.iter().map(String::as_str).collect(rt.alloc())?;
     match Program::Hand.request(words.as_slice())? {
         Request::Help => print!(rt; "{HAND_HELP}")?,
