@@ -61,11 +61,13 @@ fn all(group: u64, counter: u64, body: u64) -> Message {
     }
 }
 
-/// One gate, one handheld.
+/// One gate, one handheld; and both once more, which do and hear the same by the calls in numbers.
 #[derive(Drop)]
 struct Ends {
     gate: Gateway,
     hand: Handset,
+    numbered_gate: Gateway,
+    numbered_hand: Handset,
 }
 
 impl Ends {
@@ -73,28 +75,48 @@ impl Ends {
         Ends {
             gate: Gateway::new(1),
             hand: Handset::new(1),
+            numbered_gate: Gateway::new(1),
+            numbered_hand: Handset::new(1),
         }
     }
 
     /// What the gate does of itself says just this.
     fn gate_acts(&mut self, act: GateAct, says: Option<Message>) -> Result<(), Fail> {
         let effect = self.gate.do_act(0, 1, act);
-        check(effect == said(says))
+        let (kind, body) = match act {
+            GateAct::Invite { .. } => (0, 0),
+            GateAct::SendDown { body, .. } => (1, body),
+            GateAct::Broadcast { body } => (2, body),
+            GateAct::Rotate => (3, 0),
+            GateAct::Rekey { .. } => (4, 0),
+            GateAct::ForgetGate => (5, 0),
+        };
+        let mut row = [7; ROW];
+        let _ = self.numbered_gate.act(0, 1, kind, 0, body, &mut row);
+        check(effect == said(says) && row == written(says))
     }
 
     fn hand_acts(&mut self, act: HandAct, says: Option<Message>) -> Result<(), Fail> {
         let effect = self.hand.do_act(1, act);
-        check(effect == said(says))
+        let (kind, body) = match act {
+            HandAct::SendUp { body, .. } => (0, body),
+            HandAct::ForgetHand => (1, 0),
+        };
+        let mut row = [7; ROW];
+        let _ = self.numbered_hand.act(1, 0, kind, 0, body, &mut row);
+        check(effect == said(says) && row == written(says))
     }
 
     /// What the gate hears is not refused, is answered by just this row, and delivers nothing.
     fn gate_hears(&mut self, message: Message, says: Option<Message>) -> Result<(), Fail> {
-        let (mut said, mut taken) = ([7; ROW], [7; ROW]);
+        let (mut said_row, mut taken) = ([7; ROW], [7; ROW]);
         let row = message.row();
+        let effect = self.gate.hear_row(0, 1, row.as_slice(), true).ok();
         let heard = self
-            .gate
-            .hear(0, 1, row.as_slice(), true, &mut said, &mut taken);
-        check(heard.code == 0 && said == written(says) && taken == written(None))
+            .numbered_gate
+            .hear(0, 1, row.as_slice(), true, &mut said_row, &mut taken);
+        check(effect == Some(said(says)))?;
+        check(heard.code == 0 && said_row == written(says) && taken == written(None))
     }
 
     fn hand_hears(&mut self, message: Message, says: Option<Message>) -> Result<(), Fail> {
@@ -113,12 +135,14 @@ impl Ends {
         says: Option<Message>,
         delivers: Option<Message>,
     ) -> Result<(), Fail> {
-        let (mut said, mut taken) = ([7; ROW], [7; ROW]);
+        let (mut said_row, mut taken) = ([7; ROW], [7; ROW]);
         let row = message.row();
+        let effect = self.hand.hear_row(1, 0, row.as_slice(), true).ok();
         let heard = self
-            .hand
-            .hear(1, 0, row.as_slice(), true, &mut said, &mut taken);
-        check(heard.code == 0 && said == written(says) && taken == written(delivers))
+            .numbered_hand
+            .hear(1, 0, row.as_slice(), true, &mut said_row, &mut taken);
+        check(effect == Some(Effect { says, delivers }))?;
+        check(heard.code == 0 && said_row == written(says) && taken == written(delivers))
     }
 
     /// The whole handshake to a pair, under this group key and counter.
