@@ -1,4 +1,4 @@
-use Rattle.std.proofs.Common.{◌∙◌, inl, inr, arith}
+use Rattle.std.proofs.Common.{inl, inr, arith}
 use Rattle.std.proofs.lemmas.List.{take_rest}
 use Rattle.console.proofs.Digits.{at_first, no_message, one_byte}
 use Rattle.console.proofs.hex.from_hex.Goals as goal
